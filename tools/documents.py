@@ -16,7 +16,7 @@ import subprocess
 import sys
 
 ROOT = pathlib.Path(__file__).resolve().parents[1]
-PAST = ("CHANGELOG.md", "docs/PORT.md")
+PAST = ("CHANGELOG.md", "docs/PORT.md", "docs/DESIGN-PASS.md")
 INDEX, RULES, THIS = "docs/INDEX.md", "docs/RULES.md", "tools/documents.py"
 WORD = re.compile(r"[^\W\d][\w′]*(?:-[\w′]+)*")
 OPTION = re.compile(r"(?<![\w-])--?[A-Za-z][\w-]*")

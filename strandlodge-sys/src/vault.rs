@@ -13,12 +13,12 @@
 //! Stack: a call takes at most these bytes on x86-64, with bodies unchecked and checked. tools/stack.py measures them,
 //! on a tree of 16 levels where that matters. A call that the table doesn't name takes at most 512.
 //!
-//!     vault_open                   1,664    1,792
-//!     vault_label                  1,664    1,664
+//!     vault_open                   2,432    2,432
+//!     vault_label                  2,432    2,432
 //!     vault_lookup                 2,048    2,048
 //!     vault_failed                 2,048    2,048
 //!     vault_list                   1,536    1,536
-//!     vault_show                   7,680    7,680
+//!     vault_show                   7,296    7,296
 //!     vault_read                   1,408    1,408
 //!     vault_part                     768      768
 //!     vault_extents                1,152    1,152
@@ -26,12 +26,12 @@
 //!     vault_read_path              2,048    2,048
 //!     vault_read_all               2,176    2,176
 //!     vault_write                  1,280    1,280
-//!     vault_opening_step           1,408    1,408
+//!     vault_opening_step           1,536    1,536
 //!     vault_reading_step           2,432    2,432
-//!     vault_list_bytes               512      512
-//!     vault_match                    640      640
+//!     vault_list_bytes               512      640
+//!     vault_match                    768      768
 //!     vault_measure                1,024    1,024
-//!     vault_survey                13,824   13,824
+//!     vault_survey                13,184   13,184
 //!
 //! Every call on an image except vault_probe returns an answer, one of the numbers named below, and a count: how many
 //! sectors of 2,048 bytes it asked for. A call with an answer other than 0 is refused. It returns zeros in every value

@@ -1,5 +1,5 @@
 -- The answer number and the values of each enum answer: 0 and what was read, or the refusal's number and zeros. RULES 12.3.
-use Rattle.std.proofs.Math.Option.{Option, none, some}
+use Rattle.std.specs.Prelude.{Option, Some, None}
 use Rattle.disc.specs.Refusals.{number}
 use Rattle.disc.specs.Replies.{Answer}
 use Rattle.areas.specs.declared.AllocExtent.{AllocExtent}
@@ -15,12 +15,12 @@ pub record StepValue : Type 0 where
   pub continuation : Option AdContinuation
 
 abbrev pub step_answer : AdStep → Answer StepValue
-step_answer (Extent e c) = record { number = 0; value = record { extent = some e; continuation = none } }
-step_answer (Continues a) = record { number = 0; value = record { extent = none; continuation = some a } }
-step_answer Ends = record { number = 0; value = record { extent = none; continuation = none } }
-step_answer (Refuses r) = record { number = number r; value = record { extent = none; continuation = none } }
+step_answer (Extent e c) = record { number = 0; value = record { extent = Some e; continuation = None } }
+step_answer (Continues a) = record { number = 0; value = record { extent = None; continuation = Some a } }
+step_answer Ends = record { number = 0; value = record { extent = None; continuation = None } }
+step_answer (Refuses r) = record { number = number r; value = record { extent = None; continuation = None } }
 
 abbrev pub ending_answer : AdEnding → Answer (Option AdContinuation)
-ending_answer End = record { number = 0; value = none }
-ending_answer (Continuation a) = record { number = 0; value = some a }
-ending_answer (Refused r) = record { number = number r; value = none }
+ending_answer End = record { number = 0; value = None }
+ending_answer (Continuation a) = record { number = 0; value = Some a }
+ending_answer (Refused r) = record { number = number r; value = None }

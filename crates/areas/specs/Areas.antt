@@ -1,5 +1,5 @@
 -- Areas of allocation descriptors (ECMA-167 4/12, 4/14.14): the extents that one lists, and how it ends. RULES 6.9 to 6.14.
-use Rattle.std.specs.Prelude.{ℕ, zero, suc, ◌+◌, ◌-◌, ◌/◌, Bool, true, List, [], ◌∷◌, eqb, ltb}
+use Rattle.std.specs.Prelude.{ℕ, zero, suc, ◌+◌, ◌-◌, ◌/◌, Bool, true, List, [], ◌∷◌, eqb, ltb, Option, Some, None}
 use Rattle.disc.specs.Choice.{pick}
 use Rattle.disc.specs.declared.refusals.Refusal.TheVariants.{Unsupported}
 use Rattle.records.specs.Allocations.{short_of, long_of, ext_of}
@@ -8,8 +8,6 @@ use Rattle.records.specs.declared.allocations.LbAddr.{LbAddr}
 use Rattle.records.specs.declared.allocations.LongAd.{LongAd}
 use Rattle.records.specs.declared.allocations.ExtAd.{ExtAd}
 use Rattle.disc.specs.declared.places.Block.{Block}
-use Rattle.disc.specs.declared.places.PartitionRef.{PartitionRef}
-use Rattle.disc.specs.declared.places.PartitionRef.TheVariants.{Unnamed, Named}
 use Rattle.areas.specs.declared.AllocExtent.{AllocExtent}
 use Rattle.areas.specs.declared.AdContinuation.{AdContinuation}
 use Rattle.areas.specs.declared.Descriptor.{Descriptor}
@@ -26,10 +24,10 @@ use Rattle.areas.specs.declared.AdEnding.TheVariants.{End, Continuation, Refused
 unfoldable pub size_of : ℕ → ℕ
 size_of kind = pick (eqb kind 0) 8 (pick (eqb kind 1) 16 20)
 
-abbrev pub extent : ℕ → ℕ → ℕ → PartitionRef → AllocExtent
+abbrev pub extent : ℕ → ℕ → ℕ → Option ℕ → AllocExtent
 extent length type block partition = record { length = length; extent_type = type; block = record { 0 = block }; partition_ref = partition }
 
-abbrev pub continuation : ℕ → Block → PartitionRef → AdContinuation
+abbrev pub continuation : ℕ → Block → Option ℕ → AdContinuation
 continuation length block partition = record { length = length; block = block; partition_ref = partition }
 
 -- length 0 ends an area, whatever the type; type 3 continues it; an extent that isn't recorded whole is compressed
@@ -41,13 +39,13 @@ descriptor_of stored whole effective =
     Compressed))
 
 abbrev pub in_partition : ℕ → ℕ → LbAddr → AllocExtent
-in_partition length type location = extent length type location.block (Named location.partition_ref)
+in_partition length type location = extent length type location.block (Some location.partition_ref)
 
 -- a short_ad names no partition (4/14.14.1)
 abbrev pub short_descriptor : ShortAd → Descriptor
 short_descriptor a =
-    descriptor_of (extent a.length a.extent_type a.block_location Unnamed) true
-    (extent a.length a.extent_type a.block_location Unnamed)
+    descriptor_of (extent a.length a.extent_type a.block_location None) true
+    (extent a.length a.extent_type a.block_location None)
 
 -- a long_ad (4/14.14.2)
 abbrev pub long_descriptor : LongAd → Descriptor

@@ -5,7 +5,7 @@ ghost use Rattle.std.specs.Prelude.{◌≡◌};
 ghost use Rattle.records.specs.Allocations.{short_of, long_of, ext_of};
 ghost use Rattle.areas.specs.Areas.{size_of, descriptor_of, short_descriptor, long_descriptor, ext_descriptor, descriptor_at, next_of, area_at};
 
-use disc::places::{Block, PartitionRef};
+use disc::places::Block;
 use disc::refusals::Refusal;
 use records::allocations::{ext_at, long_at, short_at};
 
@@ -15,7 +15,7 @@ pub struct AllocExtent {
     pub length: u32,
     pub extent_type: u8,
     pub block: Block,
-    pub partition_ref: PartitionRef,
+    pub partition_ref: Option<u16>,
 }
 
 // Where the next area is.
@@ -23,7 +23,7 @@ pub struct AllocExtent {
 pub struct AdContinuation {
     pub length: u32,
     pub block: Block,
-    pub partition_ref: PartitionRef,
+    pub partition_ref: Option<u16>,
 }
 
 // `left` bytes of descriptors are left, from `at` on.
@@ -102,7 +102,7 @@ fn short_descriptor(s: &[u8], i: usize) -> Descriptor
         length: a.length,
         extent_type: a.extent_type,
         block: Block(a.block_location),
-        partition_ref: PartitionRef::Unnamed,
+        partition_ref: None,
     };
     descriptor_of(e, true, e)
 }
@@ -115,7 +115,7 @@ fn long_descriptor(s: &[u8], i: usize) -> Descriptor
         length: a.length,
         extent_type: a.extent_type,
         block: Block(a.location.block),
-        partition_ref: PartitionRef::Named(a.location.partition_ref),
+        partition_ref: Some(a.location.partition_ref),
     };
     descriptor_of(e, true, e)
 }
@@ -128,13 +128,13 @@ fn ext_descriptor(s: &[u8], i: usize) -> Descriptor
         length: a.length,
         extent_type: a.extent_type,
         block: Block(a.location.block),
-        partition_ref: PartitionRef::Named(a.location.partition_ref),
+        partition_ref: Some(a.location.partition_ref),
     };
     let effective = AllocExtent {
         length: a.information_length,
         extent_type: a.extent_type,
         block: Block(a.location.block),
-        partition_ref: PartitionRef::Named(a.location.partition_ref),
+        partition_ref: Some(a.location.partition_ref),
     };
     descriptor_of(stored, a.recorded_length == a.information_length, effective)
 }

@@ -11,205 +11,182 @@ mod lines;
 mod queries;
 mod rows;
 
-ghost use Rattle.std.specs.Prelude.{◌<◌, ◌≤◌, length};
+ghost use Rattle.std.specs.Prelude.{◌<◌, ◌≤◌, length, IfOk, IfSome};
 
-use calls::line_of;
-use disc::moves::{copy, least};
-use lines::{is_same, put, put_held, put_most, put_set, put_there};
-use programs::lent::{fill, front, part, two_mebibytes};
-use programs::words::{end_line, say, say_named};
-use queries::{
-    BY_HAND, CALLS, HEAD, WATCHED, is_meant, most, room, space, text, there, volume, volume_of,
-};
+use calls::{CALLS, Call, line_of};
+use disc::counts::UNLIMITED;
+use programs::lent::{front, is_zero, part, two_mebibytes};
+use programs::read_full;
+use programs::shown::Escaped;
+use queries::{BY_HAND, HEAD, WATCHED, calls, is_meant, most, text, there, volume, volume_of};
 use records::bytes::{byte_at, le16, le32};
 use sparse::{expand, lay_runs};
+use std::alloc::{AllocError, Global};
+use std::fmt::Write;
 use std::fs::File;
 use std::os::fd::AsRawFd;
 use std::rt::Files;
-use std::{env, fs};
+use std::{env, fs, io};
 use vault::volume::Volume;
+
+// The most bytes of a line.
+const LINE: usize = 65536;
+
+// The part of a line that is shown. All of its characters are ASCII.
+fn shown(line: &str) -> &str {
+    line.get(..LINE).unwrap_or(line)
+}
 
 // ---- a call, on an image or on every cut of it
 
-// Makes a call with memory full of A5; returns the length of its line.
-fn ask(
-    call: u32,
-    v: Volume,
-    image: &[u8],
-    q: &[u8],
-    out: &mut [u8],
-    work: &mut [u8],
-    line: &mut [u8],
-) -> usize {
-    fill(out);
-    fill(work);
-    line_of(call, v, image, q, out, work, line)
-}
-
-fn say_line(line: &[u8]) {
-    say(line);
-    end_line();
-}
-
-// Prints the line of a cut if it differs from the line before; returns the length of the last line printed.
-fn say_changed(cut: usize, line: &[u8], before: &mut [u8], n: usize) -> usize {
-    if is_same(line, front(before, n)) {
-        return n;
-    }
-    say_named(b"at ", cut as u64);
-    say(b" ");
-    say_line(line);
-    copy(line, before);
-    line.len()
-}
-
 // Each sector's end, a byte before it and a byte after it. No image has more than 1,024 sectors.
 fn cut_of(i: usize) -> usize {
-    2047 + least(i / 3, 1024) * 2048 + i % 3
+    2047 + 1024.min(i / 3) * 2048 + i % 3
 }
 
+// Prints the line of each cut that differs from the line before.
 fn watch(
-    call: u32,
+    rt: &(impl Print + AllocGlobal),
+    call: Call,
     v: Volume,
     image: &[u8],
     q: &[u8],
-    out: &mut [u8],
-    work: &mut [u8],
-    line: &mut [u8],
-) {
-    let cuts = image.len() / 2048 * 3;
-    let mut before = io::large_buffer();
-    let mut n = 0;
-    let mut i = 0;
-    while i < cuts {
+) -> io::Result<()> {
+    let mut before = String::new(rt.alloc());
+    for i in 0..image.len() / 2048 * 3 {
         let cut = front(image, cut_of(i));
-        i += 1;
-        let k = ask(call, v, cut, q, out, work, line);
-        n = say_changed(cut.len(), front(line, k), &mut before, n);
+        let line = line_of(rt.alloc(), call, v, cut, q)?;
+        if shown(line.as_str()) != shown(before.as_str()) {
+            println!(rt; "at {} {}", cut.len(), shown(line.as_str()))?;
+            before = line;
+        }
     }
+    Ok(())
 }
 
-// Makes a call if its bit is set.
-fn ask_if(
-    is_asked: bool,
-    call: u32,
+fn ask(
+    rt: &(impl Print + AllocGlobal),
+    call: Call,
     v: Volume,
     image: &[u8],
     q: &[u8],
-    out: &mut [u8],
-    work: &mut [u8],
-    line: &mut [u8],
-) {
-    if !is_asked {
-        return;
-    }
+) -> io::Result<()> {
     if there(q) == WATCHED {
-        watch(call, v, image, q, out, work, line);
-        return;
+        return watch(rt, call, v, image, q);
     }
-    let k = ask(call, v, front(image, there(q) as usize), q, out, work, line);
-    say_line(front(line, k));
+    let whole = front(image, there(q) as usize);
+    let line = line_of(rt.alloc(), call, v, whole, q)?;
+    println!(rt; "{}", shown(line.as_str()))
 }
 
 // ---- a query
 
+// A word and a number, unless the number is 0.
+fn put_set(line: &mut String, word: &str, n: u32) -> Result<(), AllocError> {
+    if n == 0 {
+        return Ok(());
+    }
+    write!(line, " {word} {n}")
+}
+
+// A word and a text, unless all its bytes are 0.
+fn put_held(line: &mut String, word: &str, text: &[u8]) -> Result<(), AllocError> {
+    if is_zero(text) {
+        return Ok(());
+    }
+    write!(line, " {word} {}", Escaped(text))
+}
+
 // What is asked. Zeros are left out, and `there` if it is the whole length.
-fn put_numbers(line: &mut [u8], q: &[u8], length: usize) -> usize {
-    let a = put(line, 0, b"query");
-    let b = put_set(line, a, b" volume ", volume(q));
-    let c = put_there(line, b, there(q), length);
-    let d = put_set(line, c, b" matching ", le32(q, 12));
-    put_set(line, d, b" levels ", le32(q, 16))
+fn put_numbers(line: &mut String, q: &[u8], length: usize) -> Result<(), AllocError> {
+    put_set(line, "volume", volume(q))?;
+    if there(q) as usize != length {
+        write!(line, " there {}", there(q))?;
+    }
+    put_set(line, "matching", le32(q, 12))?;
+    put_set(line, "levels", le32(q, 16))
 }
 
 // What is lent. Zeros are left out, and a budget of UNLIMITED.
-fn put_lent(line: &mut [u8], at: usize, q: &[u8]) -> usize {
-    let a = put_most(line, at, most(q));
-    let b = put_set(line, a, b" room ", le32(q, 20));
-    let c = put_set(line, b, b" work ", le32(q, 24));
-    let d = put_set(line, c, b" slots ", le32(q, 28));
-    put_set(line, d, b" answers ", le32(q, 32))
+fn put_lent(line: &mut String, q: &[u8]) -> Result<(), AllocError> {
+    if most(q) != UNLIMITED {
+        write!(line, " most {}", most(q))?;
+    }
+    put_set(line, "room", le32(q, 20))?;
+    put_set(line, "work", le32(q, 24))?;
+    put_set(line, "slots", le32(q, 28))?;
+    put_set(line, "answers", le32(q, 32))
 }
 
-fn say_query(q: &[u8], length: usize, line: &mut [u8]) {
-    let a = put_numbers(line, q, length);
-    let b = put_lent(line, a, q);
-    let c = put_held(line, b, b" icb ", part(q, 36, 52));
-    let d = put_held(line, c, b" text ", text(q));
-    say_line(front(line, d));
+fn line_of_query(alloc: Global, q: &[u8], length: usize) -> Result<String, AllocError> {
+    let mut line = format!(in alloc; "query")?;
+    put_numbers(&mut line, q, length)?;
+    put_lent(&mut line, q)?;
+    put_held(&mut line, "icb", part(q, 36, 52))?;
+    put_held(&mut line, "text", text(q))?;
+    Ok(line)
 }
 
 // Makes each call of a query, in order.
-fn ask_calls(v: Volume, image: &[u8], q: &[u8], out: &mut [u8], work: &mut [u8], line: &mut [u8]) {
-    let mut bits = le32(q, 0);
-    let mut call: u32 = 0;
-    while call < CALLS {
-        ask_if(bits % 2 == 1, call, v, image, q, out, work, line);
-        bits = bits / 2;
-        call += 1;
+fn query(rt: &(impl Print + AllocGlobal), image: &[u8], made: &[u8], q: &[u8]) -> io::Result<()> {
+    let asked = line_of_query(rt.alloc(), q, image.len())?;
+    println!(rt; "{}", shown(asked.as_str()))?;
+    let v = Volume(volume_of(image, q, made));
+    for (bit, call) in CALLS.iter().enumerate() {
+        if calls(q) >> bit & 1 == 1 {
+            ask(rt, *call, v, image, q)?;
+        }
     }
+    Ok(())
 }
 
-// Runs a query with the memory that it lends.
-fn query(image: &[u8], made: &[u8], q: &[u8], out: &mut [u8], work: &mut [u8], line: &mut [u8]) {
-    say_query(q, image.len(), line);
-    let n = least(room(q), out.len());
-    let m = least(space(q), work.len());
-    let v = volume_of(image, q, made);
-    ask_calls(Volume(v), image, q, &mut out[..n], &mut work[..m], line);
+fn refuse(rt: &impl Print, at: usize, why: &str) -> io::Result<()> {
+    println!(rt; "refused at byte {at}: {why}")
 }
 
-fn refuse(at: usize, why: &[u8]) {
-    say_named(b"refused at byte ", at as u64);
-    say_line(why);
-}
-
-// Runs the query at i, in a record that ends where `all` ends. Returns where the next one starts, or 0 if it is
+// Runs the query at i, in a record that ends where `all` ends. Returns where the next one starts, or nothing if it is
 // refused.
 fn next_query(
+    rt: &(impl Print + AllocGlobal),
     image: &[u8],
     made: &[u8],
     all: &[u8],
     i: usize,
-    out: &mut [u8],
-    work: &mut [u8],
-    line: &mut [u8],
-) -> usize
+) -> io::Result<Option<usize>>
     requires { i < length all.now }
+    ensures { IfOk result (λ next. IfSome next (λ n. i < n)) }
 {
     let end = i + HEAD + le32(all, i + 60) as usize;
     if all.len() < end {
-        refuse(i, b": it is cut");
-        return 0;
+        refuse(rt, i, "it is cut")?;
+        return Ok(None);
     }
     let q = part(all, i, end);
     if !is_meant(q, image.len(), made.len() / BY_HAND) {
-        refuse(i, b": a number means nothing");
-        return 0;
+        refuse(rt, i, "a number means nothing")?;
+        return Ok(None);
     }
-    query(image, made, q, out, work, line);
-    end
+    query(rt, image, made, q)?;
+    Ok(Some(end))
 }
 
 // Runs the queries in order; false if one is refused.
 fn ask_queries(
+    rt: &(impl Print + AllocGlobal),
     image: &[u8],
     made: &[u8],
     all: &[u8],
     from: usize,
-    out: &mut [u8],
-    work: &mut [u8],
-    line: &mut [u8],
-) -> bool {
+) -> io::Result<bool> {
     let mut i = from;
+    // A `while`, since each query says itself where the next one starts: `for` is no plainer.
     while i < all.len() {
-        let next = next_query(image, made, all, i, out, work, line);
-        if next <= i {
-            return false;
+        match next_query(rt, image, made, all, i)? {
+            Some(next) => i = next,
+            None => return Ok(false),
         }
-        i = next;
     }
-    true
+    Ok(true)
 }
 
 // ---- an image
@@ -231,6 +208,7 @@ struct Record {
 // file.
 fn record_at(all: &[u8], i: usize) -> Record
     requires { i < length all.now }
+    ensures { i < result.end }
 {
     let name = i + 2 + le16(all, i) as usize;
     let image_end = name + 5 + le32(all, name + 1) as usize;
@@ -249,10 +227,8 @@ fn record_at(all: &[u8], i: usize) -> Record
 
 // Whether a packed image has exactly its runs, each of them within the image.
 fn is_packed(packed: &[u8]) -> bool {
-    let runs = le32(packed, 4);
     let mut i = 8;
-    let mut k: u32 = 0;
-    while k < runs {
+    for _ in 0..le32(packed, 4) {
         if packed.len() <= i {
             return false;
         }
@@ -261,76 +237,86 @@ fn is_packed(packed: &[u8]) -> bool {
             return false;
         }
         i = i + 8 + n;
-        k += 1;
     }
     i == packed.len()
+}
+
+// How a record's image is made: alone, or over the last image before it that is.
+#[derive(Clone, Copy)]
+enum Making {
+    Alone,
+    Over,
+}
+
+// The way that a record's number says, if it is one.
+fn making_of(all: &[u8], r: Record) -> Option<Making> {
+    match byte_at(all, r.name) {
+        0 => Some(Making::Alone),
+        1 => Some(Making::Over),
+        _ => None,
+    }
 }
 
 fn packed_in(all: &[u8], r: Record) -> &[u8] {
     part(all, r.image, r.image_end)
 }
 
-// Whether the record at i says how to make its image: alone, or over the image of the record at `base`, which comes
-// before it.
+// Whether the record at i says how to make its image. The image that it is made over is that of the record at `base`,
+// which comes before it.
 fn is_image(all: &[u8], i: usize, base: usize, most: usize) -> bool
     requires { i < length all.now }
 {
     let r = record_at(all, i);
     let packed = packed_in(all, r);
-    let how = byte_at(all, r.name);
-    is_packed(packed)
-        & (le32(packed, 0) as usize <= most)
-        & ((how == 0) | ((how == 1) & (base < i)))
+    let is_made = match making_of(all, r) {
+        Some(Making::Alone) => true,
+        Some(Making::Over) => base < i,
+        None => false,
+    };
+    is_packed(packed) & (le32(packed, 0) as usize <= most) & is_made
 }
 
 // Makes the image of a record in lent memory; returns its length.
-fn image_of(packed: &[u8], good: &[u8], is_alone: bool, image: &mut [u8]) -> usize {
-    if is_alone {
-        return expand(packed, image);
+fn image_of(packed: &[u8], good: &[u8], how: Option<Making>, image: &mut [u8]) -> usize {
+    match how {
+        Some(Making::Alone) => expand(packed, image),
+        _ => {
+            expand(good, image);
+            lay_runs(packed, image);
+            le32(packed, 0) as usize
+        }
     }
-    expand(good, image);
-    lay_runs(packed, image);
-    le32(packed, 0) as usize
 }
 
-// Runs the queries of the image at i. Returns where the next image's record starts, or 0 if it is refused.
+// Runs the queries of the image at i. Returns where the next image's record starts, or nothing if it is refused.
 fn run(
+    rt: &(impl Print + AllocGlobal),
     all: &[u8],
     i: usize,
     base: usize,
     image: &mut [u8],
-    out: &mut [u8],
-    work: &mut [u8],
-    line: &mut [u8],
-) -> usize
+) -> io::Result<Option<usize>>
     requires { (i < length all.now) × (base < length all.now) }
+    ensures { IfOk result (λ next. IfSome next (λ n. i < n)) }
 {
     let r = record_at(all, i);
     if all.len() < r.end {
-        refuse(i, b": it is cut");
-        return 0;
+        refuse(rt, i, "it is cut")?;
+        return Ok(None);
     }
     if !is_image(all, i, base, image.len()) {
-        refuse(i, b": no such image");
-        return 0;
+        refuse(rt, i, "no such image")?;
+        return Ok(None);
     }
-    say(b"image ");
-    say_line(part(all, i + 2, r.name));
+    // The name is shown as it is stored, whatever its bytes are.
+    print!(rt; "image ")?;
+    rt.write_all(part(all, i + 2, r.name))?;
+    println!(rt)?;
     let good = packed_in(all, record_at(all, base));
-    let n = image_of(packed_in(all, r), good, byte_at(all, r.name) == 0, image);
+    let n = image_of(packed_in(all, r), good, making_of(all, r), image);
     let made = part(all, r.made, r.made_end);
-    if ask_queries(
-        part(image, 0, n),
-        made,
-        part(all, 0, r.end),
-        r.queries,
-        out,
-        work,
-        line,
-    ) {
-        return r.end;
-    }
-    0
+    let is_done = ask_queries(rt, front(image, n), made, front(all, r.end), r.queries)?;
+    Ok(is_done.then_some(r.end))
 }
 
 // The last record up to i whose image stands alone.
@@ -339,65 +325,59 @@ fn base_at(all: &[u8], i: usize, base: usize) -> usize
     ensures { result ≤ i }
 {
     let r = record_at(all, i);
-    if byte_at(all, r.name) == 0 {
-        return i;
+    match making_of(all, r) {
+        Some(Making::Alone) => i,
+        _ => base,
     }
-    base
 }
 
-fn run_all(all: &[u8], image: &mut [u8], out: &mut [u8], work: &mut [u8], line: &mut [u8]) {
+fn run_all(rt: &(impl Print + AllocGlobal), all: &[u8], image: &mut [u8]) -> io::Result<()> {
     let mut base = 0;
     let mut i = 0;
+    // A `while`, since each image says itself where the next one starts: `for` is no plainer.
     while i < all.len() {
         base = base_at(all, i, base);
-        let next = run(all, i, base, image, out, work, line);
-        if next <= i {
-            return;
+        match run(rt, all, i, base, image)? {
+            Some(next) => i = next,
+            None => return Ok(()),
         }
-        i = next;
     }
+    Ok(())
 }
 
 // ---- the files
 
 fn ask_file(
-    rt: &impl Files<File = File>,
+    rt: &(impl Files<File = File> + Print + AllocGlobal),
     name: &str,
     image: &mut [u8],
-    out: &mut [u8],
-    work: &mut [u8],
-    line: &mut [u8],
-) {
-    say(b"file ");
-    say_line(name.as_bytes());
+) -> io::Result<()> {
+    println!(rt; "file {name}")?;
     let Ok(file) = fs::open(rt, name) else {
-        refuse(0, b": it isn't there");
-        return;
+        return refuse(rt, 0, "it isn't there");
     };
+    // A read that fails ends the file.
     let mut all = two_mebibytes();
-    let n = io::read_full(file.as_raw_fd(), &mut all);
-    if n == 2097152 {
-        refuse(n, b": there is no room for more");
-        return;
+    let n = read_full(file.as_raw_fd(), &mut all);
+    if n == all.len() {
+        return refuse(rt, n, "there is no room for more");
     }
-    run_all(front(&all, n), image, out, work, line);
+    run_all(rt, front(&all, n), image)
+}
+
+// A line that can't be written doesn't change the exit status. Memory that runs out does.
+fn unless_unwritten(r: io::Result<()>) -> io::Result<()> {
+    match r {
+        Err(e) if e.kind() != io::ErrorKind::OutOfMemory => Ok(()),
+        _ => r,
+    }
 }
 
 // Runs the files that the arguments name, in order.
-fn main(rt: HostRuntime) -> std::io::Result<()> {
+fn main(rt: HostRuntime) -> io::Result<()> {
     let mut image = two_mebibytes();
-    let mut out = io::large_buffer();
-    let mut work = io::large_buffer();
-    let mut line = io::large_buffer();
     for name in env::args(&rt)?.skip(1) {
-        ask_file(
-            &rt,
-            name.as_str(),
-            &mut image,
-            &mut out,
-            &mut work,
-            &mut line,
-        );
+        unless_unwritten(ask_file(&rt, name.as_str(), &mut image))?;
     }
     Ok(())
 }

@@ -21,15 +21,17 @@ const BYTES: u32 = 65536;
 
 const PLACES: u32 = 1024;
 
-// How many calls there are; a number above every set of them, a bit for each call; how many ways of opening there
-// are.
-pub(crate) const CALLS: u32 = 16;
-
+// A number above every set of calls, a bit for each call; how many ways of opening there are.
 const BITS: u32 = 65536;
 
 const WAYS: u32 = 8;
 
 // ---- the fields
+
+// The calls that are asked, a bit for each.
+pub(crate) fn calls(q: &[u8]) -> u32 {
+    le32(q, 0)
+}
 
 pub(crate) fn volume(q: &[u8]) -> u32 {
     le32(q, 4)
@@ -100,7 +102,7 @@ fn is_lent(q: &[u8]) -> bool {
 
 // Whether a query means something, on an image of `length` bytes with `by_hand` volumes made by hand.
 pub(crate) fn is_meant(q: &[u8], length: usize, by_hand: usize) -> bool {
-    let calls = le32(q, 0);
+    let calls = calls(q);
     let is_call = (0 < calls) & (calls < BITS);
     is_call & is_lent(q) & is_there(there(q), length) & is_known(calls, volume(q), by_hand)
 }

@@ -1,8 +1,8 @@
 -- How many sectors a chain asks for, on any disc: at most 512 for each continuation. Assumes nothing.
+use Rattle.std.specs.Prelude.{Option, Some, None, Result, Ok, Err}
 use mathlib.Core.Path.{◌≡◌, refl}
 use mathlib.Core.Bool.{Bool, true, false}
 use mathlib.Core.List.{List, [], ◌++◌}
-use mathlib.Core.Option.{Option, none, some}
 use Prim.Native.Nat.{ℕ, zero, suc, ◌+◌, ◌*◌, ◌≤◌}
 use native.Mathlib.Omega.{arith}
 use lib.Dec.{ltb}
@@ -20,14 +20,13 @@ use Rattle.disc.specs.declared.refusals.Refusal.{Refusal}
 use Rattle.disc.specs.declared.refusals.Refusal.TheVariants.{Malformed, Unsupported}
 use Rattle.disc.proofs.RanLaws.{ran-done, ran-refuse, ran-there, ran-missing, ran_then}
 use Rattle.tags.specs.Tags.{read_aed}
-use Rattle.tags.specs.declared.AedRead.{AedRead}
-use Rattle.tags.specs.declared.AedRead.TheVariants.{Header, NoHeader}
 use Rattle.areas.specs.declared.AdContinuation.{AdContinuation}
 use Rattle.areas.specs.declared.AdEnding.{AdEnding}
 use Rattle.areas.specs.declared.AdEnding.TheVariants.{End, Continuation, Refused}
 use Rattle.areas.specs.Areas.{Area}
 use Rattle.chains.specs.Chains.{area_in, area_from, next_area, continued, chain}
 use Rattle.chains.specs.Totals.{AtMost}
+use Rattle.tags.specs.declared.AllocationExtentDescriptor.{AllocationExtentDescriptor}
 
 -- ---- a tree that asks for at most n sectors, whatever it is given
 
@@ -68,9 +67,9 @@ sectors-asks (suc n) at =
     ask-asks at _ n (λ b. fewer-asks (n + 0) n (omega arith)
     (then-asks (sectors n (at + 1)) _ n 0 (sectors-asks n (at + 1)) (λ r. done-asks (b ++ r) 0)))
 
-area-asks : (kind size : ℕ) (s : List ℕ) (r : AedRead) → AtMost 0 (area_in kind size s r)
-area-asks kind size s (NoHeader r) = refuse-asks r 0
-area-asks kind size s (Header h) = pick-asks (ltb size (24 + h.length_of_allocation_descriptors)) 0 (refuse-asks Malformed 0) (done-asks _ 0)
+area-asks : (kind size : ℕ) (s : List ℕ) (r : Result AllocationExtentDescriptor Refusal) → AtMost 0 (area_in kind size s r)
+area-asks kind size s (Err r) = refuse-asks r 0
+area-asks kind size s (Ok h) = pick-asks (ltb size (24 + h.length_of_allocation_descriptors)) 0 (refuse-asks Malformed 0) (done-asks _ 0)
 
 from-asks : (check : Bool) (kind length at : ℕ) → AtMost 512 (area_from check kind length at)
 unfolding area_from
@@ -83,8 +82,8 @@ from-asks check kind length at = pick-asks (ltb length 24) 512 (refuse-asks Malf
         (then-asks _ _ (sectors_for length) 0 (sectors-asks _ _) (λ s. area-asks kind length s (read_aed check s)))
 
 pub standing-asks : {A : Type 0} (o : Option ℕ) (f : ℕ → Ask A) (n : ℕ) → ((s : ℕ) → AtMost n (f s)) → AtMost n (standing o f)
-standing-asks none f n h = refuse-asks Unsupported n
-standing-asks (some s) f n h = h s
+standing-asks None f n h = refuse-asks Unsupported n
+standing-asks (Some s) f n h = h s
 
 next-asks : (m : Mount) (kind : ℕ) (e : AdContinuation) → AtMost 512 (next_area m kind e)
 unfolding next_area

@@ -1,9 +1,9 @@
 -- What is left of a chain, counted one step at a time: its extents, and the areas that are gone to. Assumes nothing.
+use Rattle.std.specs.Prelude.{Option, Some, None, Result, Ok, Err}
 use mathlib.Core.Path.{◌≡◌, refl, sym, ◌∙◌}
 use mathlib.Core.Bool.{Bool}
 use mathlib.Core.List.{List, [], ◌∷◌}
 use mathlib.Core.Logic.{⊎_elim}
-use mathlib.Core.Option.{Option, none, some}
 use Prim.Native.Nat.{ℕ, zero, suc, ◌+◌, ◌-◌, ◌*◌, ◌≤◌, ◌<◌, ◌^◌}
 use native.Mathlib.Omega.{arith}
 use lib.ListN.{length}
@@ -21,8 +21,6 @@ use Rattle.disc.specs.declared.refusals.Refusal.TheVariants.{Io, Malformed, Unsu
 use Rattle.disc.proofs.RanLaws.{ran-done, ran-refuse, ran_then, never}
 use Rattle.disc.proofs.ImageLaws.{split}
 use Rattle.tags.specs.Tags.{read_aed}
-use Rattle.tags.specs.declared.AedRead.{AedRead}
-use Rattle.tags.specs.declared.AedRead.TheVariants.{Header, NoHeader}
 use Rattle.areas.specs.declared.AllocExtent.{AllocExtent}
 use Rattle.areas.specs.declared.AdContinuation.{AdContinuation}
 use Rattle.areas.specs.declared.AdCursor.{AdCursor}
@@ -36,14 +34,15 @@ use Rattle.chains.specs.declared.counts.Counted.{Counted}
 use Rattle.chains.specs.declared.cursors.ChainCursor.{ChainCursor}
 use Rattle.chains.specs.declared.cursors.ChainStep.{ChainStep}
 use Rattle.chains.specs.declared.cursors.ChainStep.TheVariants.{Takes, Hops, Ends}
-use Rattle.chains.specs.declared.continuations.NextArea.{NextArea}
-use Rattle.chains.specs.declared.continuations.NextArea.TheVariants.{Found, Refused as Misses}
 use Rattle.chains.specs.Chains.{next_area, continued, hops}
 use Rattle.chains.specs.Inner.Follows.{ReachesFrom, chain_at}
 use Rattle.chains.specs.Inner.Walks.{left, passed, hops_at, weight, hop_to, hopping, stepped, step_of, Counts}
 use Rattle.chains.proofs.WalkLaws.{Taken, Hopped, ended, hopped, taken}
 use Rattle.chains.proofs.FollowLaws.{next-short, next-long, next-missing, next-none, next-over, next-found}
 use Rattle.disc.specs.Parts.{Bytes}
+use Rattle.tags.specs.declared.AllocationExtentDescriptor.{AllocationExtentDescriptor}
+use Rattle.chains.specs.declared.continuations.NextArea.{NextArea}
+use Rattle.disc.specs.declared.refusals.CountedRefusal.{CountedRefusal}
 
 -- ---- the areas that are gone to, one step at a time
 
@@ -76,8 +75,8 @@ module _ (image : List ℕ) (m : Mount) (kind : ℕ) where
     where
       lands : (a : AdContinuation) → next_of kind image (here c) ≡ Continues a → (n : ℕ) → c.hops ≡ suc n → (o : Option ℕ) → placed m a.partition_ref a.block.0 ≡ o
           → Levels image m kind c (hop_to image o (suc n))
-      lands a q n z none f = rw (walks-continuation kind image (here c) q, z, f)
-      lands a q n z (some s) f =
+      lands a q n z None f = rw (walks-continuation kind image (here c) q, z, f)
+      lands a q n z (Some s) f =
           let p : suc n - 1 ≡ n = omega arith in
           rw p (record { even = rw (walks-continuation kind image (here c) q, z, f) (omega arith) })
 
@@ -170,7 +169,7 @@ counts-exact q h = omega (arith, q.extents, q.few)
 
 -- an area in a sector is there or it isn't, by its checks
 record Reached (check : Bool) (image : List ℕ) (length first : ℕ) : Type 0 where
-  which : NextArea
+  which : Result NextArea CountedRefusal
   is : ReachesFrom check image length first which
 
 module _ (check : Bool) (image : List ℕ) (length first : ℕ) where
@@ -178,13 +177,13 @@ module _ (check : Bool) (image : List ℕ) (length first : ℕ) where
   buffer = bytes_of (outcome (disc image) (sectors (sectors_for length) first))
 
   module _ (h : 24 ≤ length) (l : length ≤ 1048576) where
-    reached-by : sectors_for length ≤ held_from image first → (r : AedRead) → r ≡ read_aed check buffer → Reached check image length first
-    reached-by k (NoHeader why) q = record { which = Misses why (sectors_for length); is = next-none check image length first h l refl refl k refl q refl }
-    reached-by k (Header x) q = ⊎_elim
+    reached-by : sectors_for length ≤ held_from image first → (r : Result AllocationExtentDescriptor Refusal) → r ≡ read_aed check buffer → Reached check image length first
+    reached-by k (Err why) q = record { which = Err (record { why = why; count = (sectors_for length) }); is = next-none check image length first h l refl refl k refl q refl }
+    reached-by k (Ok x) q = ⊎_elim
         (λ (y : 24 + x.length_of_allocation_descriptors ≤ length).
-        record { which = Found (2048 * first + 24) x.length_of_allocation_descriptors (sectors_for length); is = next-found check image length first h l refl refl k refl q refl y })
+        record { which = Ok (record { at = (2048 * first + 24); size = x.length_of_allocation_descriptors; sectors = (sectors_for length) }); is = next-found check image length first h l refl refl k refl q refl y })
         (λ (y : length < 24 + x.length_of_allocation_descriptors).
-        record { which = Misses Malformed (sectors_for length); is = next-over check image length first h l refl refl k refl q refl y })
+        record { which = Err (record { why = Malformed; count = (sectors_for length) }); is = next-over check image length first h l refl refl k refl q refl y })
         (split (24 + x.length_of_allocation_descriptors) length)
 
   reached : Reached check image length first
@@ -192,11 +191,11 @@ module _ (check : Bool) (image : List ℕ) (length first : ℕ) where
       (λ (h : 24 ≤ length). ⊎_elim
       (λ (l : length ≤ 1048576). ⊎_elim
       (λ (k : sectors_for length ≤ held_from image first). reached-by h l k (read_aed check buffer) refl)
-      (λ (k : held_from image first < sectors_for length). record { which = Misses Io (held_from image first + 1); is = next-missing check image length first h l refl refl k })
+      (λ (k : held_from image first < sectors_for length). record { which = Err (record { why = Io; count = (held_from image first + 1) }); is = next-missing check image length first h l refl refl k })
       (split (sectors_for length) (held_from image first)))
-      (λ (k : 1048576 < length). record { which = Misses Unsupported 0; is = next-long check image length first h k })
+      (λ (k : 1048576 < length). record { which = Err (record { why = Unsupported; count = 0 }); is = next-long check image length first h k })
       (split length 1048576))
-      (λ (k : length < 24). record { which = Misses Malformed 0; is = next-short check image length first k })
+      (λ (k : length < 24). record { which = Err (record { why = Malformed; count = 0 }); is = next-short check image length first k })
       (split 24 length)
 
 module _ (image : List ℕ) (m : Mount) (kind : ℕ) where
@@ -232,16 +231,16 @@ module _ (image : List ℕ) (m : Mount) (kind : ℕ) where
     unfolding passed next_area
     goes-next ih es q = by (placed m a.partition_ref a.block.0) refl
       where
-        from : (s : ℕ) → placed m a.partition_ref a.block.0 ≡ some s → (r : NextArea) → ReachesFrom (is_checked m) image a.length s r
+        from : (s : ℕ) → placed m a.partition_ref a.block.0 ≡ Some s → (r : Result NextArea CountedRefusal) → ReachesFrom (is_checked m) image a.length s r
             → (ran (disc image) (hops m kind (suc n) (Continuation a))).outcome ≡ answered (passed image m kind (suc n) (Continuation a))
-        from s f (Misses why j) y = never (sym (missed why j (rw f (y.runs kind))) ∙ q)
-        from s f (Found at size j) y =
-            rw (f, ← y.place, ← y.says) (behind (area_at kind image at size) j (rw f (y.runs kind)) (ih (area_at kind image at size).ending) es q)
+        from s f (Err e) y = never (sym (missed e.why e.count (rw f (y.runs kind))) ∙ q)
+        from s f (Ok x) y =
+            rw (f, ← y.place, ← y.says) (behind (area_at kind image x.at x.size) x.sectors (rw f (y.runs kind)) (ih (area_at kind image x.at x.size).ending) es q)
 
         by : (o : Option ℕ) → placed m a.partition_ref a.block.0 ≡ o
             → (ran (disc image) (hops m kind (suc n) (Continuation a))).outcome ≡ answered (passed image m kind (suc n) (Continuation a))
-        by none f = never (sym (missed Unsupported 0 (rw f (ran-refuse (disc image) Unsupported))) ∙ q)
-        by (some s) f = let g = reached (is_checked m) image a.length s in from s f g.which g.is
+        by None f = never (sym (missed Unsupported 0 (rw f (ran-refuse (disc image) Unsupported))) ∙ q)
+        by (Some s) f = let g = reached (is_checked m) image a.length s in from s f g.which g.is
 
   refused-here : (r : Refusal) → (ran {A = List AllocExtent} (disc image) (refuse r)).outcome ≡ refused r
   refused-here r = rw ran-refuse

@@ -1,8 +1,8 @@
 -- A chain of areas, followed one area at a time. Assumes nothing.
+use Rattle.std.specs.Prelude.{Option, Some, None, Result, Ok, Err}
 use mathlib.Core.Path.{◌≡◌, refl, ap, sym, ◌∙◌}
 use mathlib.Core.Bool.{Bool}
 use mathlib.Core.List.{List, [], ◌++◌}
-use mathlib.Core.Option.{some}
 use Prim.Native.Nat.{ℕ, zero, suc, ◌+◌, ◌-◌, ◌*◌, ◌≤◌, ◌<◌, ◌^◌}
 use native.Mathlib.Omega.{arith}
 use native.Mathlib.Nat.{add-sub_cancel_left, add-zero, zero-add, add_assoc}
@@ -18,8 +18,6 @@ use Rattle.disc.specs.Images.{disc, sectors, held_from, bytes_of, sectors_for}
 use Rattle.disc.specs.Places.{placed, is_checked, BlockStands}
 use Rattle.disc.specs.declared.places.Mount.{Mount}
 use Rattle.disc.specs.declared.places.Sector.{Sector}
-use Rattle.disc.specs.declared.places.Placed.{Placed}
-use Rattle.disc.specs.declared.places.Placed.TheVariants.{At, Nowhere}
 use Rattle.disc.specs.declared.refusals.Refusal.{Refusal}
 use Rattle.disc.specs.declared.refusals.Refusal.TheVariants.{Io, Malformed, Unsupported}
 use Rattle.disc.proofs.PlaceLaws.{stands-nowhere, stands_at}
@@ -27,8 +25,6 @@ use Rattle.disc.proofs.RanLaws.{ran-done, ran-refuse, ran_then}
 use Rattle.disc.proofs.ImageLaws.{sectors-run, part-whole}
 use Rattle.tags.specs.Tags.{read_aed}
 use Rattle.tags.specs.declared.AllocationExtentDescriptor.{AllocationExtentDescriptor}
-use Rattle.tags.specs.declared.AedRead.{AedRead}
-use Rattle.tags.specs.declared.AedRead.TheVariants.{Header, NoHeader}
 use Rattle.tags.proofs.HeadLaws.{aed-read}
 use Rattle.areas.specs.declared.AdContinuation.{AdContinuation}
 use Rattle.areas.specs.declared.AdEnding.{AdEnding}
@@ -36,24 +32,23 @@ use Rattle.areas.specs.declared.AdEnding.TheVariants.{End, Continuation, Refused
 use Rattle.areas.specs.Areas.{Area, area_at}
 use Rattle.areas.proofs.PartLaws.{same-part, same-u32, area-in-part}
 use Rattle.chains.specs.declared.cursors.ChainCursor.{ChainCursor}
-use Rattle.chains.specs.declared.continuations.NextArea.{NextArea}
-use Rattle.chains.specs.declared.continuations.NextArea.TheVariants.{Found, Refused}
-use Rattle.chains.specs.declared.follows.Chain.TheVariants.{Whole, Refused as BrokenOff}
 use Rattle.chains.specs.Chains.{area_in, area_from, next_area, continued}
 use Rattle.chains.specs.Inner.Walks.{beyond, left}
 use Rattle.chains.specs.Inner.Follows.{FoundArea, NoArea, Reaches, ReachesFrom, chain_at, Followed}
 use Rattle.chains.proofs.WalkLaws.{beyond-end}
 use Rattle.disc.specs.Lists.{sectors_run}
+use Rattle.chains.specs.declared.continuations.NextArea.{NextArea}
+use Rattle.disc.specs.declared.refusals.CountedRefusal.{CountedRefusal}
 
 -- ---- the area that continues another
 
 module _ (check : Bool) (image : List ℕ) (length first : ℕ) where
-  pub next-short : length < 24 → ReachesFrom check image length first (Refused Malformed 0)
+  pub next-short : length < 24 → ReachesFrom check image length first (Err (record { why = Malformed; count = 0 }))
   unfolding area_from
   next-short k = record { runs = λ kind. rw (lt-ltb length 24 k) (ran-refuse (disc image) Malformed); few = omega arith }
 
   module _ (h : 24 ≤ length) where
-    pub next-long : 1048576 < length → ReachesFrom check image length first (Refused Unsupported 0)
+    pub next-long : 1048576 < length → ReachesFrom check image length first (Err (record { why = Unsupported; count = 0 }))
     unfolding area_from
     next-long k = record { runs = λ kind. rw (le-ltb length 24 h, lt-ltb 1048576 length k) (ran-refuse (disc image) Unsupported); few = omega arith }
 
@@ -65,10 +60,10 @@ module _ (check : Bool) (image : List ℕ) (length first : ℕ) where
       unfolding area_from
       asks kind = rw (le-ltb length 24 h, le-ltb 1048576 length l, ran_then, sectors-run, ← u)
 
-      pub next-missing : held < n → ReachesFrom check image length first (Refused Io (held + 1))
+      pub next-missing : held < n → ReachesFrom check image length first (Err (record { why = Io; count = (held + 1) }))
       next-missing k = record { runs = λ kind. asks kind ∙ rw (← m, lt-leb n held k); few = omega (arith, few-sectors) }
 
-      module _ (k : n ≤ held) {b : List ℕ} (p : b ≡ bytes_of (outcome (disc image) (sectors n first))) {r : AedRead} (q : r ≡ read_aed check b) where
+      module _ (k : n ≤ held) {b : List ℕ} (p : b ≡ bytes_of (outcome (disc image) (sectors n first))) {r : Result AllocationExtentDescriptor Refusal} (q : r ≡ read_aed check b) where
         abbrev buffer : List ℕ
         buffer = take (2048 * n) (drop (2048 * first) image)
 
@@ -84,15 +79,15 @@ module _ (check : Bool) (image : List ℕ) (length first : ℕ) where
         reads : (kind : ℕ) → ran (disc image) (area_from check kind length first) ≡ after n (ran (disc image) (area_in kind length buffer r))
         reads kind = asks kind ∙ rw (← m, le-leb n held k, header)
 
-        pub next-none : {why : Refusal} → r ≡ NoHeader why → ReachesFrom check image length first (Refused why n)
+        pub next-none : {why : Refusal} → r ≡ Err why → ReachesFrom check image length first (Err (record { why = why; count = n }))
         next-none z = record { runs = λ kind. reads kind ∙ rw (z, ran-refuse, add-zero); few = few-sectors }
 
-        module _ {x : AllocationExtentDescriptor} (z : r ≡ Header x) where
-          pub next-over : length < 24 + x.length_of_allocation_descriptors → ReachesFrom check image length first (Refused Malformed n)
+        module _ {x : AllocationExtentDescriptor} (z : r ≡ Ok x) where
+          pub next-over : length < 24 + x.length_of_allocation_descriptors → ReachesFrom check image length first (Err (record { why = Malformed; count = n }))
           next-over y = record { runs = λ kind. reads kind ∙ rw (z, lt-ltb length (24 + x.length_of_allocation_descriptors) y, ran-refuse, add-zero); few = few-sectors }
 
           pub next-found : 24 + x.length_of_allocation_descriptors ≤ length
-              → ReachesFrom check image length first (Found (2048 * first + 24) x.length_of_allocation_descriptors n)
+              → ReachesFrom check image length first (Ok (record { at = (2048 * first + 24); size = x.length_of_allocation_descriptors; sectors = n }))
           next-found y = record {
             runs = λ kind. reads kind ∙ rw (z, le-ltb length (24 + x.length_of_allocation_descriptors) y, ran-done, add-zero, area-in-part image (2048 * first) (2048 * n) kind 24 x.length_of_allocation_descriptors (omega arith));
             place = refl;
@@ -101,19 +96,19 @@ module _ (check : Bool) (image : List ℕ) (length first : ℕ) where
           }
 
 -- where it stands, before those checks
-module _ (image : List ℕ) (m : Mount) (a : AdContinuation) {p : Placed} (q : BlockStands m a.partition_ref a.block.0 p) where
-  pub next-nowhere : p ≡ Nowhere → Reaches image m a (Refused Unsupported 0)
+module _ (image : List ℕ) (m : Mount) (a : AdContinuation) {p : Option Sector} (q : BlockStands m a.partition_ref a.block.0 p) where
+  pub next-nowhere : p ≡ None → Reaches image m a (Err (record { why = Unsupported; count = 0 }))
   unfolding next_area
   next-nowhere e = record { runs = λ kind. rw (stands-nowhere m a.partition_ref a.block.0 q e) (ran-refuse (disc image) Unsupported); few = omega arith }
 
-  module _ {s : Sector} (e : p ≡ At s) where
-    there : placed m a.partition_ref a.block.0 ≡ some s.0
+  module _ {s : Sector} (e : p ≡ Some s) where
+    there : placed m a.partition_ref a.block.0 ≡ Some s.0
     there = stands_at m a.partition_ref a.block.0 q e
 
-    pub next-there : {check : Bool} → check ≡ is_checked m → (r : NextArea) → ReachesFrom check image a.length s.0 r → Reaches image m a r
+    pub next-there : {check : Bool} → check ≡ is_checked m → (r : Result NextArea CountedRefusal) → ReachesFrom check image a.length s.0 r → Reaches image m a r
     unfolding next_area
-    next-there k (Found at size n) y = record { runs = λ kind. rw (there, ← k) (y.runs kind); there = λ kind. rw (there, y.place, y.says); few = y.few }
-    next-there k (Refused why n) y = record { runs = λ kind. rw (there, ← k) (y.runs kind); few = y.few }
+    next-there k (Ok x) y = record { runs = λ kind. rw (there, ← k) (y.runs kind); there = λ kind. rw (there, y.place, y.says); few = y.few }
+    next-there k (Err e) y = record { runs = λ kind. rw (there, ← k) (y.runs kind); few = y.few }
 
 -- ---- the loop over areas: what the rest comes to says what the whole comes to
 
@@ -182,39 +177,39 @@ module _ (image : List ℕ) (m : Mount) (kind : ℕ) where
     follow-starts d = record { whole = λ n e. rw zero-add e; broken = λ r n e. rw zero-add e; few = omega arith; deep = d }
 
     module _ (c : ChainCursor) (count : ℕ) (i : Following c count) {t : AdEnding} (e : t ≡ (area c).ending) where
-      pub follow-end : t ≡ End → Followed image m kind c₀ (Whole count)
+      pub follow-end : t ≡ End → Followed image m kind c₀ (Ok count)
       follow-end z = record { runs = (rw add-zero at (i.whole 0 (chain-end c (sym z ∙ e)))); few = omega (arith, i.few) }
 
-      pub follow-broken : {r : Refusal} → t ≡ Refuses r → Followed image m kind c₀ (BrokenOff r count)
+      pub follow-broken : {r : Refusal} → t ≡ Refuses r → Followed image m kind c₀ (Err (record { why = r; count = count }))
       follow-broken {r} z = record { runs = (rw add-zero at (i.broken r 0 (chain-broken c r (sym z ∙ e)))); few = omega (arith, i.few) }
 
       module _ {x : AdContinuation} (z : t ≡ Continuation x) where
-        pub follow-cut : c.hops ≡ 0 → Followed image m kind c₀ (BrokenOff Malformed count)
+        pub follow-cut : c.hops ≡ 0 → Followed image m kind c₀ (Err (record { why = Malformed; count = count }))
         follow-cut h = record { runs = (rw add-zero at (i.broken Malformed 0 (chain-cut c x (sym z ∙ e) h))); few = omega (arith, i.few) }
 
-        module _ (h : c.hops ≡ 0 → ⊥) (r : NextArea) (q : Reaches image m x r) where
+        module _ (h : c.hops ≡ 0 → ⊥) (r : Result NextArea CountedRefusal) (q : Reaches image m x r) where
           more : c.hops ≡ suc (c.hops - 1)
           more = omega arith
 
-          pub follow-none : {why : Refusal} {n : ℕ} → r ≡ Refused why n → Followed image m kind c₀ (BrokenOff why (count + n))
-          follow-none {why} {n} k =
-              let y : NoArea image m x why n = rw k at q in
-              record { runs = i.broken why n (chain-none c x (sym z ∙ e) (c.hops - 1) more why n y); few = omega (arith, i.few, y.few) }
+          pub follow-none : {w : CountedRefusal} → r ≡ Err w → Followed image m kind c₀ (Err (record { why = w.why; count = count + w.count }))
+          follow-none {w} k =
+              let y : NoArea image m x w.why w.count = rw k at q in
+              record { runs = i.broken w.why w.count (chain-none c x (sym z ∙ e) (c.hops - 1) more w.why w.count y); few = omega (arith, i.few, y.few) }
 
-          pub follow-none-fits : {why : Refusal} {n : ℕ} → r ≡ Refused why n → Fits w64 (count + n)
-          follow-none-fits {why} {n} k = let y : NoArea image m x why n = rw k at q in omega (arith, i.few, i.deep, y.few)
+          pub follow-none-fits : {w : CountedRefusal} → r ≡ Err w → Fits w64 (count + w.count)
+          follow-none-fits {w} k = let y : NoArea image m x w.why w.count = rw k at q in omega (arith, i.few, i.deep, y.few)
 
-          module _ {at size n : ℕ} (k : r ≡ Found at size n) where
-            found : FoundArea image m x at size n
+          module _ {o : NextArea} (k : r ≡ Ok o) where
+            found : FoundArea image m x o.at o.size o.sectors
             found = rw k at q
 
-            pub follow-adds : Fits w64 (count + n)
+            pub follow-adds : Fits w64 (count + o.sectors)
             follow-adds = omega (arith, i.few, i.deep, found.few)
 
-            pub follow-next : Following (record { at = at; left = size; hops = c.hops - 1 }) (count + n)
+            pub follow-next : Following (record { at = o.at; left = o.size; hops = c.hops - 1 }) (count + o.sectors)
             follow-next = record {
-              whole = λ j w. rw add_assoc (i.whole (n + j) (turn-whole c x (sym z ∙ e) (c.hops - 1) more at size n found j w));
-              broken = λ b j w. rw add_assoc (i.broken b (n + j) (turn-broken c x (sym z ∙ e) (c.hops - 1) more at size n found b j w));
+              whole = λ j w. rw add_assoc (i.whole (o.sectors + j) (turn-whole c x (sym z ∙ e) (c.hops - 1) more o.at o.size o.sectors found j w));
+              broken = λ b j w. rw add_assoc (i.broken b (o.sectors + j) (turn-broken c x (sym z ∙ e) (c.hops - 1) more o.at o.size o.sectors found b j w));
               few = omega (arith, i.few, found.few);
               deep = i.deep;
             }

@@ -1,9 +1,9 @@
 -- A chain of a volume whose descriptors' bodies are checked is the chain without that check, with the header of each continuation marked where it is parsed.
 -- Assumes nothing.
+use Rattle.std.specs.Prelude.{Option, Some, None}
 use mathlib.Core.Path.{◌≡◌, refl}
 use mathlib.Core.Bool.{Bool, true, false}
 use mathlib.Core.List.{List, []}
-use mathlib.Core.Option.{Option, none, some}
 use Prim.Native.Nat.{ℕ, zero, suc, ◌+◌}
 use native.Mathlib.Omega.{arith}
 use lib.Dec.{ltb}
@@ -13,8 +13,6 @@ use Rattle.disc.specs.Ask.Ask.{done, refuse}
 use Rattle.disc.specs.Images.{sectors, sectors_for}
 use Rattle.disc.specs.Places.{mapped_start, start_for, placed, is_checked, unchecked, standing}
 use Rattle.disc.specs.declared.places.Mount.{Mount}
-use Rattle.disc.specs.declared.places.PartitionRef.{PartitionRef}
-use Rattle.disc.specs.declared.places.PartitionRef.TheVariants.{Unnamed, Named}
 use Rattle.disc.specs.declared.refusals.Refusal.{Refusal}
 use Rattle.disc.specs.declared.refusals.Refusal.TheVariants.{Malformed, Unsupported}
 use Rattle.disc.proofs.AskLaws.{then-then, then-done}
@@ -53,10 +51,10 @@ unfolding sectors
 sectors-guards zero at = done-guards []
 sectors-guards (suc n) at = ask-guards at (λ b. then-guards (sectors-guards n (at + 1)) (λ rest. done-guards _))
 
-pub placed-unchecked : (m : Mount) (r : PartitionRef) (block : ℕ) → placed (unchecked m) r block ≡ placed m r block
+pub placed-unchecked : (m : Mount) (r : Option ℕ) (block : ℕ) → placed (unchecked m) r block ≡ placed m r block
 unfolding placed start_for mapped_start
-placed-unchecked m Unnamed block = refl
-placed-unchecked m (Named p) block = refl
+placed-unchecked m None block = refl
+placed-unchecked m (Some p) block = refl
 
 -- no area of an image ends with a 10
 pub area-ends : (kind : ℕ) (s : List ℕ) (i size : ℕ) (r : Refusal) → (area_at kind s i size).ending ≡ Refused r → ButBad r
@@ -83,8 +81,8 @@ module _ {B : Type 0} (kind : ℕ) (f f' : Area → Ask B) (h : (s : List ℕ) (
   next-before m c a = rw (c, placed-unchecked m) (by (placed m a.partition_ref a.block.0)).all
     where
       by : (o : Option ℕ) → Before f f' (standing o (area_from true kind a.length)) (standing o (area_from false kind a.length))
-      by none = refuse-before Unsupported (λ e. omega arith)
-      by (some s) = from-before a.length s
+      by None = refuse-before Unsupported (λ e. omega arith)
+      by (Some s) = from-before a.length s
 
 -- ---- the chain
 

@@ -1,8 +1,8 @@
 -- How many bytes the extents of a chain say that they hold, on any disc: at most 2^47 for each continuation. Assumes nothing.
+use Rattle.std.specs.Prelude.{Option, Some, None, Result, Ok, Err}
 use mathlib.Core.Path.{◌≡◌, refl}
 use mathlib.Core.Bool.{Bool, true, false}
 use mathlib.Core.List.{List, [], ◌++◌}
-use mathlib.Core.Option.{Option, none, some}
 use Prim.Native.Nat.{ℕ, zero, suc, ◌+◌, ◌*◌, ◌≤◌, ◌^◌}
 use native.Mathlib.Nat.{suc-mul}
 use native.Mathlib.Omega.{arith}
@@ -20,8 +20,6 @@ use Rattle.disc.specs.declared.refusals.Refusal.{Refusal}
 use Rattle.disc.specs.declared.refusals.Refusal.TheVariants.{Malformed, Unsupported}
 use Rattle.disc.proofs.RanLaws.{ran-done, ran-refuse, ran_then}
 use Rattle.tags.specs.Tags.{read_aed}
-use Rattle.tags.specs.declared.AedRead.{AedRead}
-use Rattle.tags.specs.declared.AedRead.TheVariants.{Header, NoHeader}
 use Rattle.areas.specs.declared.AllocExtent.{AllocExtent}
 use Rattle.areas.specs.declared.AdContinuation.{AdContinuation}
 use Rattle.areas.specs.declared.AdEnding.{AdEnding}
@@ -31,6 +29,7 @@ use Rattle.areas.proofs.TotalLaws.{total-append, area-total}
 use Rattle.chains.specs.Chains.{area_in, area_from, next_area, continued, chain}
 use Rattle.areas.specs.Totals.{total}
 use Rattle.chains.specs.Totals.{size_in, Within, held}
+use Rattle.tags.specs.declared.AllocationExtentDescriptor.{AllocationExtentDescriptor}
 
 -- ---- a tree whose answers have at most a size, whatever it is given
 
@@ -55,9 +54,9 @@ module _ {A : Type 0} (size : A → ℕ) (n : ℕ) where
 -- ---- the chain
 
 module _ (v : Mount) (kind : ℕ) where
-  area-within : (size : ℕ) (s : List ℕ) (r : AedRead) → size ≤ 1048576 → Within held (2 ^ 47) (area_in kind size s r)
-  area-within size s (NoHeader r) l = refuse-within held (2 ^ 47) r
-  area-within size s (Header h) l = pick-within held (2 ^ 47) (ltb size (24 + h.length_of_allocation_descriptors)) (λ t. refuse-within held (2 ^ 47) Malformed)
+  area-within : (size : ℕ) (s : List ℕ) (r : Result AllocationExtentDescriptor Refusal) → size ≤ 1048576 → Within held (2 ^ 47) (area_in kind size s r)
+  area-within size s (Err r) l = refuse-within held (2 ^ 47) r
+  area-within size s (Ok h) l = pick-within held (2 ^ 47) (ltb size (24 + h.length_of_allocation_descriptors)) (λ t. refuse-within held (2 ^ 47) Malformed)
       (λ t. done-within held (2 ^ 47) _ (omega (arith, ltb-false size (24 + h.length_of_allocation_descriptors) t, area-total kind s 24 h.length_of_allocation_descriptors)))
 
   from-within : (check : Bool) (length at : ℕ) → Within held (2 ^ 47) (area_from check kind length at)
@@ -72,8 +71,8 @@ module _ (v : Mount) (kind : ℕ) where
   next-within a = by (placed v a.partition_ref a.block.0)
     where
       by : (o : Option ℕ) → Within held (2 ^ 47) (standing o (area_from (is_checked v) kind a.length))
-      by none = refuse-within held (2 ^ 47) Unsupported
-      by (some at) = from-within (is_checked v) a.length at
+      by None = refuse-within held (2 ^ 47) Unsupported
+      by (Some at) = from-within (is_checked v) a.length at
 
   -- more extents behind some
   joined-within : (n k : ℕ) (es : List AllocExtent) (m : Ask (List AllocExtent)) → total es ≤ k → Within total n m → Within total (n + k) (then m (λ more. done (es ++ more)))

@@ -1,15 +1,13 @@
 -- What a cursor stands for, one step at a time. Assumes nothing.
+use Rattle.std.specs.Prelude.{Option, Some, None}
 use mathlib.Core.Path.{◌≡◌, refl, sym, ◌∙◌}
 use mathlib.Core.List.{List, [], ◌∷◌}
-use mathlib.Core.Option.{Option, none, some}
 use Prim.Native.Nat.{ℕ, zero, suc, ◌+◌, ◌-◌, ◌*◌, ◌≤◌, ◌<◌, ◌^◌}
 use native.Mathlib.Omega.{arith}
 use borrow.Author.Tests.{eq-eqb, ne_eqb}
 use Rattle.disc.specs.Places.{placed, BlockStands}
 use Rattle.disc.specs.declared.places.Mount.{Mount}
 use Rattle.disc.specs.declared.places.Sector.{Sector}
-use Rattle.disc.specs.declared.places.Placed.{Placed}
-use Rattle.disc.specs.declared.places.Placed.TheVariants.{At, Nowhere}
 use Rattle.disc.specs.declared.refusals.Refusal.{Refusal}
 use Rattle.disc.proofs.PlaceLaws.{stands-nowhere, stands_at}
 use Rattle.areas.specs.declared.AllocExtent.{AllocExtent}
@@ -28,7 +26,7 @@ use Rattle.disc.specs.Parts.{Bytes}
 
 -- ---- the returns of `hop` and `advance`
 
-pub hop-on : (image : List ℕ) (s hops : ℕ) {size : ℕ} → size ≡ area_size image s → Hops (record { at = 2048 * s + 24; left = size; hops = hops - 1 }) ≡ hop_to image (some s) hops
+pub hop-on : (image : List ℕ) (s hops : ℕ) {size : ℕ} → size ≡ area_size image s → Hops (record { at = 2048 * s + 24; left = size; hops = hops - 1 }) ≡ hop_to image (Some s) hops
 hop-on image s hops e = rw e
 
 pub hop-some : (hops : ℕ) → (hops ≡ 0 → ⊥) → 1 ≤ hops
@@ -38,12 +36,12 @@ module _ (image : List ℕ) (m : Mount) (a : AdContinuation) (hops : ℕ) where
   pub hop-out : hops ≡ 0 → Ends ≡ hopping image m a hops
   hop-out z = rw (eq-eqb hops 0 z)
 
-  module _ (z : hops ≡ 0 → ⊥) {p : Placed} (q : BlockStands m a.partition_ref a.block.0 p) where
-    pub hop-nowhere : p ≡ Nowhere → Ends ≡ hopping image m a hops
+  module _ (z : hops ≡ 0 → ⊥) {p : Option Sector} (q : BlockStands m a.partition_ref a.block.0 p) where
+    pub hop-nowhere : p ≡ None → Ends ≡ hopping image m a hops
     hop-nowhere e = rw (ne_eqb hops 0 z, stands-nowhere m a.partition_ref a.block.0 q e)
 
-    module _ {s : Sector} (e : p ≡ At s) where
-      pub hop-in : {x : ChainStep} → x ≡ hop_to image (some s.0) hops → x ≡ hopping image m a hops
+    module _ {s : Sector} (e : p ≡ Some s) where
+      pub hop-in : {x : ChainStep} → x ≡ hop_to image (Some s.0) hops → x ≡ hopping image m a hops
       hop-in f = f ∙ rw (ne_eqb hops 0 z, stands_at m a.partition_ref a.block.0 q e)
 
 module _ (image : List ℕ) (m : Mount) (kind : ℕ) (c : ChainCursor) {r : AdStep} (q : r ≡ next_of kind image (record { at = c.at; left = c.left })) where
@@ -102,8 +100,8 @@ module _ (image : List ℕ) (m : Mount) (kind : ℕ) where
       -- to the area in a sector, or nowhere
       lands : (a : AdContinuation) → next_of kind image (here c) ≡ Continues a → (n : ℕ) → c.hops ≡ suc n → (o : Option ℕ) → placed m a.partition_ref a.block.0 ≡ o
           → Stepped image m kind c (hop_to image o (suc n))
-      lands a q n z none f = rw (walks-continuation kind image (here c) q, z, f) (beyond-end n)
-      lands a q n z (some s) f =
+      lands a q n z None f = rw (walks-continuation kind image (here c) q, z, f) (beyond-end n)
+      lands a q n z (Some s) f =
           let p : suc n - 1 ≡ n = omega arith in
           rw p (record { list = rw (walks-continuation kind image (here c) q, z, f); less = omega (arith, size_fits b s) })
 

@@ -1,5 +1,5 @@
 -- A chain of areas (ECMA-167 4/12, 4/14.5): RULES 6.15 to 6.18.
-use Rattle.std.specs.Prelude.{ℕ, zero, suc, ◌+◌, Bool, List, [], ◌++◌, ltb}
+use Rattle.std.specs.Prelude.{ℕ, zero, suc, ◌+◌, Bool, List, [], ◌++◌, ltb, Result, Ok, Err}
 use Rattle.disc.specs.Choice.{pick}
 use Rattle.disc.specs.Ask.{Ask, then}
 use Rattle.disc.specs.Ask.Ask.{done, refuse}
@@ -8,13 +8,13 @@ use Rattle.disc.specs.Places.{placed, is_checked, standing}
 use Rattle.disc.specs.declared.places.Mount.{Mount}
 use Rattle.disc.specs.declared.refusals.Refusal.TheVariants.{Malformed, Unsupported}
 use Rattle.tags.specs.Tags.{read_aed}
-use Rattle.tags.specs.declared.AedRead.{AedRead}
-use Rattle.tags.specs.declared.AedRead.TheVariants.{Header, NoHeader}
 use Rattle.areas.specs.declared.AllocExtent.{AllocExtent}
 use Rattle.areas.specs.declared.AdContinuation.{AdContinuation}
 use Rattle.areas.specs.declared.AdEnding.{AdEnding}
 use Rattle.areas.specs.declared.AdEnding.TheVariants.{End, Continuation, Refused}
 use Rattle.areas.specs.Areas.{Area, area_at}
+use Rattle.tags.specs.declared.AllocationExtentDescriptor.{AllocationExtentDescriptor}
+use Rattle.disc.specs.declared.refusals.Refusal.{Refusal}
 
 -- at most this many continuations are followed, and none is longer than this
 abbrev pub most_continuations : ℕ
@@ -24,9 +24,9 @@ abbrev pub longest_continuation : ℕ
 longest_continuation = 1048576
 
 -- the area after a header (4/14.5), in a continuation of `size` bytes whose sectors are s
-abbrev pub area_in : ℕ → ℕ → List ℕ → AedRead → Ask Area
-area_in kind size s (NoHeader r) = refuse r
-area_in kind size s (Header h) =
+abbrev pub area_in : ℕ → ℕ → List ℕ → Result AllocationExtentDescriptor Refusal → Ask Area
+area_in kind size s (Err r) = refuse r
+area_in kind size s (Ok h) =
     pick (ltb size (24 + h.length_of_allocation_descriptors)) (refuse Malformed)
     (done (area_at kind s 24 h.length_of_allocation_descriptors))
 

@@ -1,11 +1,11 @@
 // A cursor over a file's allocation descriptors, through all areas of its chain. It stands for the extents that are
 // left, and is used only once the chain was followed without a refusal.
 ghost use Rattle.std.specs.Prelude.{◌≡◌, ◌≤◌, ◌<◌, ◌^◌};
-ghost use Rattle.std.proofs.Math.Option.{some};
+ghost use Rattle.std.specs.Prelude.{Some};
 ghost use Rattle.chains.specs.Inner.Walks.{hop_to, hopping, step_of};
 
 use areas::{AdContinuation, AdCursor, AdStep, AllocExtent, next_ad};
-use disc::places::{Mount, Placed, Sector};
+use disc::places::{Mount, Sector};
 use records::bytes::le32;
 
 // `left` bytes of descriptors are left from `at` on; `hops` more areas may follow.
@@ -26,7 +26,7 @@ pub enum ChainStep {
 // Hops to the area in the sectors from `first` on, past its header of 24 bytes.
 fn hop_to(image: &[u8], first: Sector, hops: u8) -> ChainStep
     requires { (first.0 < 2 ^ 33) × (1 ≤ hops) }
-    ensures { result ≡ hop_to image.now (some first.0) hops }
+    ensures { result ≡ hop_to image.now (Some first.0) hops }
 {
     let place = (2048 * first.0) as usize;
     let size = le32(image, place + 20);
@@ -47,8 +47,8 @@ fn hop(image: &[u8], mount: Mount, a: AdContinuation, hops: u8) -> ChainStep
     let reference = a.partition_ref;
     let block = a.block;
     match mount.placed(reference, block) {
-        Placed::Nowhere => ChainStep::Ends,
-        Placed::At(first) => hop_to(image, first, hops),
+        None => ChainStep::Ends,
+        Some(first) => hop_to(image, first, hops),
     }
 }
 

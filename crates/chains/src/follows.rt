@@ -5,16 +5,15 @@ use crate::continuations::{NextArea, next_area};
 use crate::cursors::ChainCursor;
 use areas::{AdCursor, AdEnding, ending_of};
 use disc::places::Mount;
-use disc::refusals::Refusal;
+use disc::refusals::{CountedRefusal, Refusal};
 
-// The sectors asked for to follow a chain; with a refusal, if there was one.
-#[derive(Clone, Copy)]
-pub enum Chain {
-    Whole(u64),
-    Refused(Refusal, u64),
-}
-
-pub fn follow(image: &[u8], mount: Mount, kind: u8, first: ChainCursor) -> Chain
+// Follows a chain to its end: the sectors asked for, also in a refusal.
+pub fn follow(
+    image: &[u8],
+    mount: Mount,
+    kind: u8,
+    first: ChainCursor,
+) -> Result<u64, CountedRefusal>
     ensures { Followed image.now mount kind first result }
 {
     let mut c = first;
@@ -25,16 +24,27 @@ pub fn follow(image: &[u8], mount: Mount, kind: u8, first: ChainCursor) -> Chain
             left: c.left,
         };
         match ending_of(image, kind, here) {
-            AdEnding::End => return Chain::Whole(count),
-            AdEnding::Refused(why) => return Chain::Refused(why, count),
+            AdEnding::End => return Ok(count),
+            AdEnding::Refused(why) => return Err(CountedRefusal {
+                why: why,
+                count: count,
+            }),
             AdEnding::Continuation(a) => {
                 let hops = c.hops;
                 if hops == 0 {
-                    return Chain::Refused(Refusal::Malformed, count);
+                    return Err(CountedRefusal {
+                        why: Refusal::Malformed,
+                        count: count,
+                    });
                 }
                 match next_area(image, mount, a) {
-                    NextArea::Refused(why, n) => return Chain::Refused(why, count + n),
-                    NextArea::Found { at, size, sectors } => {
+                    Err(r) => {
+                        return Err(CountedRefusal {
+                            why: r.why,
+                            count: count + r.count,
+                        });
+                    }
+                    Ok(NextArea { at, size, sectors }) => {
                         count += sectors;
                         c = ChainCursor {
                             at: at,

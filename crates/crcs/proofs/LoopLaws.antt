@@ -1,10 +1,12 @@
 -- Laws of the loops over the bytes. Assumes nothing.
 use mathlib.Core.Path.{◌≡◌, refl, ap, sym, ◌∙◌}
 use mathlib.Core.List.{List, [], ◌∷◌}
-use Prim.Native.Nat.{ℕ, suc, ◌+◌, ◌-◌, ◌<◌, ◌≤◌, zero-le}
+use Prim.Native.Nat.{ℕ, zero, suc, ◌+◌, ◌*◌, ◌/◌, ◌<◌, ◌≤◌}
+use native.Mathlib.Nat.{add-zero}
 use native.Mathlib.Omega.{arith}
 use lib.ListN.{length, get_or, take, drop, length-drop, drop_of_length-le}
-use lib.Seq.{drop-cons, take_all}
+use lib.Seq.{drop-cons, drop-drop, get_or-take, get_or-drop}
+use Rattle.std.specs.Simd.{first_chunks}
 use Rattle.crcs.specs.Inner.Tables.{byte_by, bytes_by, four_by, crc_by}
 
 -- The byte at i, and those behind it.
@@ -31,13 +33,23 @@ module _ (t : List ℕ) (from : ℕ) (s : List ℕ) (c i : ℕ) (p : Taken t fro
 
 -- ---- four at a time
 
--- The same of whole fours.
-pub record Fours (t u : List ℕ) (from : ℕ) (s : List ℕ) (c i : ℕ) : Type 0 where
-  pub within : i ≤ length s
-  pub rest : crc_by t u c (drop i s) ≡ crc_by t u from s
+-- The same of k whole fours.
+pub record Fours (t u : List ℕ) (from : ℕ) (s : List ℕ) (c k : ℕ) : Type 0 where
+  pub rest : crc_by t u c (drop (k * 4) s) ≡ crc_by t u from s
 
 pub fours-start : (t u : List ℕ) (from : ℕ) (s : List ℕ) → Fours t u from s from 0
-fours-start t u from s = record { within = zero-le; rest = refl }
+fours-start t u from s = record { rest = refl }
+
+-- The four at k.
+four-at : (n k : ℕ) (s : List ℕ) → k < n → get_or (first_chunks 4 n s) k [] ≡ take 4 (drop (k * 4) s)
+four-at zero k s h = absurd (omega arith)
+four-at (suc n) zero s h = refl
+four-at (suc n) (suc k) s h =
+    let e : 4 + k * 4 ≡ suc k * 4 = omega arith in
+    four-at n k (drop 4 s) (omega arith) ∙ ap (take 4) (drop-drop (k * 4) 4 s ∙ ap (λ j. drop j s) e)
+
+byte-in : (s : List ℕ) (i j : ℕ) → j < 4 → get_or (take 4 (drop i s)) j 0 ≡ get_or s (i + j) 0
+byte-in s i j h = get_or-take 4 (drop i s) j 0 h ∙ get_or-drop i s j 0
 
 four-on : (s : List ℕ) (i : ℕ) → i + 4 ≤ length s
     → drop i s ≡ get_or s i 0 ∷ get_or s (i + 1) 0 ∷ get_or s (i + 2) 0 ∷ get_or s (i + 3) 0 ∷ drop (i + 4) s
@@ -57,12 +69,24 @@ few t u c (b0 ∷ b1 ∷ []) h = refl
 few t u c (b0 ∷ b1 ∷ b2 ∷ []) h = refl
 few t u c (b0 ∷ b1 ∷ b2 ∷ b3 ∷ s) h = absurd (omega arith)
 
-module _ (t u : List ℕ) (from : ℕ) (s : List ℕ) (c i : ℕ) (p : Fours t u from s c i) where
-  pub fours-next : (r : ℕ) → i + 4 ≤ length s → r ≡ four_by t u c (get_or s i 0) (get_or s (i + 1) 0) (get_or s (i + 2) 0) (get_or s (i + 3) 0) → Fours t u from s r (i + 4)
+module _ (t u : List ℕ) (from : ℕ) (s : List ℕ) (c k : ℕ) (p : Fours t u from s c k) {fours : List (List ℕ)} (front : fours ≡ first_chunks 4 (length s / 4) s) where
+  pub fours-next : (r : ℕ) → k < length s / 4
+      → r ≡ four_by t u c (get_or (get_or fours k []) 0 0) (get_or (get_or fours k []) 1 0) (get_or (get_or fours k []) 2 0) (get_or (get_or fours k []) 3 0)
+      → Fours t u from s r (k + 1)
   unfolding crc_by
-  fours-next r h e = record { within = h; rest = rw e (rw (four-on s i h) at p.rest) }
+  fours-next r h e =
+      let at : get_or fours k [] ≡ take 4 (drop (k * 4) s) = rw front (four-at (length s / 4) k s h) in
+      let n : (k + 1) * 4 ≡ k * 4 + 4 = omega arith in
+      let b0 : get_or (get_or fours k []) 0 0 ≡ get_or s (k * 4) 0 = rw at (byte-in s (k * 4) 0 (omega arith) ∙ rw add-zero) in
+      let b1 : get_or (get_or fours k []) 1 0 ≡ get_or s (k * 4 + 1) 0 = rw at (byte-in s (k * 4) 1 (omega arith)) in
+      let b2 : get_or (get_or fours k []) 2 0 ≡ get_or s (k * 4 + 2) 0 = rw at (byte-in s (k * 4) 2 (omega arith)) in
+      let b3 : get_or (get_or fours k []) 3 0 ≡ get_or s (k * 4 + 3) 0 = rw at (byte-in s (k * 4) 3 (omega arith)) in
+      record { rest = rw (n, e, b0, b1, b2, b3) (rw (four-on s (k * 4) (omega arith)) at p.rest) }
 
-  pub fours-end : length s < i + 4 → {r : ℕ} → r ≡ bytes_by t c (take (length s - i) (drop i s)) → r ≡ crc_by t u from s
-  fours-end h e =
-      let l : length (drop i s) ≡ length s - i = length-drop i s in
-      e ∙ rw (take_all (length s - i) (drop i s) (omega arith)) (sym (few t u c (drop i s) (omega (arith, p.within))) ∙ p.rest)
+pub fours-end : (t u : List ℕ) (from : ℕ) (s : List ℕ) (c k : ℕ) → Fours t u from s c k → length s / 4 ≤ k → k ≤ length s / 4
+    → {tail : List ℕ} → tail ≡ drop (length s / 4 * 4) s → {r : ℕ} → r ≡ bytes_by t c tail → r ≡ crc_by t u from s
+fours-end t u from s c k p h g {tail} b {r} e =
+    let k' : k ≡ length s / 4 = omega arith in
+    let l : length tail < 4 = rw (b, length-drop) (omega arith) in
+    let q : crc_by t u c tail ≡ crc_by t u from s = rw (b, ← k') p.rest in
+    e ∙ sym (few t u c tail l) ∙ q

@@ -25,10 +25,8 @@ fn take_bytes(t: &[u16; 256], from: u16, s: &[u8]) -> u16
     ensures { result ≡ bytes_by t.now from s.now }
 {
     let mut c = from;
-    let mut i = 0;
-    while i < s.len() {
-        c = take_byte(t, c, s[i]);
-        i += 1;
+    for b in s {
+        c = take_byte(t, c, *b);
     }
     c
 }
@@ -49,13 +47,12 @@ fn take_four(t: &[u16; 256], further: &[u16; 768], c: u16, b0: u8, b1: u8, b2: u
 fn take_fours(t: &[u16; 256], further: &[u16; 768], from: u16, s: &[u8]) -> u16
     ensures { result ≡ crc_by t.now further.now from s.now }
 {
+    let (fours, rest) = s.as_chunks::<4>();
     let mut c = from;
-    let mut i = 0;
-    while i + 4 <= s.len() {
-        c = take_four(t, further, c, s[i], s[i + 1], s[i + 2], s[i + 3]);
-        i += 4;
+    for [b0, b1, b2, b3] in fours {
+        c = take_four(t, further, c, *b0, *b1, *b2, *b3);
     }
-    take_bytes(t, c, &s[i..])
+    take_bytes(t, c, rest)
 }
 
 // The CRC of s, continued from `front`, by the first table alone.

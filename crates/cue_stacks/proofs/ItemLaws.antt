@@ -1,69 +1,36 @@
--- Laws of the items of a list of paths, in the form that the loops ask for. Assumes nothing.
-use mathlib.Core.Path.{◌≡◌, refl, ap}
+-- Laws of the items of a list of paths, in the form that the code asks for. Assumes nothing.
+use mathlib.Core.Path.{◌≡◌, refl, sym, ap, ◌∙◌}
 use mathlib.Core.Bool.{Bool, true, false}
 use mathlib.Core.List.{List, [], ◌∷◌}
 use Prim.Native.Nat.{ℕ, suc, ◌+◌, ◌<◌, ◌≤◌, zero-le}
 use native.Mathlib.Numerals.{add-one}
 use native.Mathlib.Omega.{arith}
-use lib.ListN.{length, get_or, take, drop, drop_of_length-le}
-use lib.Seq.{drop-cons}
+use lib.ListN.{length, take, drop}
 use lib.Dec.{eqb}
 use borrow.Author.Tests.{eq-eqb, ne_eqb}
 use Rattle.disc.specs.Choice.{pick}
+use Rattle.std.proofs.Common.{Option, cond}
+use Rattle.std.specs.List.{AllWithin, HoldsAt, filter}
+use Rattle.std.specs.Option.{MatchOption, unwrap_or}
+use Rattle.std.proofs.lemmas.Iterator.{index_from_first}
+use Rattle.std.proofs.lemmas.List.Sums.{length-filter}
+use Rattle.std.proofs.lemmas.List.Recursion.{is_count_by}
 use Rattle.cue_stacks.specs.Stacks.{item, items_behind, items}
 
--- ---- the loop over an item has come to i
+-- ---- what is counted: the bytes before the first zero, and an item behind the first for each zero
 
-pub record Spelling (paths : List ℕ) (at i : ℕ) : Type 0 where
-  pub rest : i + length (item (drop i paths)) ≡ at + length (item (drop at paths))
+pub item-counted : (s : List ℕ) (r : Option ℕ)
+    → MatchOption r (AllWithin (λ b. b ≡ 0 → ⊥) s 0 (length s)) (λ i. (i < length s) × HoldsAt (λ b. b ≡ 0) s i × AllWithin (λ b. b ≡ 0 → ⊥) s 0 i) → length (item s) ≡ unwrap_or r (length s)
+unfolding item
+item-counted = index_from_first (λ s. length (item s)) (λ b. b ≡ 0) (λ b. b ≡ 0 → ⊥) refl (λ b s h. simp (eq-eqb _ _ h)) (λ b s h. simp (ne_eqb _ _ h) (rw add-one))
 
-module _ {paths : List ℕ} {at i : ℕ} (p : Spelling paths at i) where
-  pub spell_next : i < length paths → (get_or paths i 0 ≡ 0 → ⊥) → Spelling paths at (i + 1)
-  unfolding item
-  spell_next h e =
-      let k : length (item (drop i paths)) ≡ suc (length (item (drop (i + 1) paths))) = rw (add-one, drop-cons paths i 0) (simp (ne_eqb _ _ e)) in
-      record { rest = omega arith }
-
-  pub spell-stops : i < length paths → get_or paths i 0 ≡ 0 → i ≡ at + length (item (drop at paths))
-  unfolding item
-  spell-stops h e =
-      let k : length (item (drop i paths)) ≡ 0 = rw (drop-cons paths i 0) (simp (eq-eqb _ _ e)) in
-      omega arith
-
-  pub spell-ends : length paths ≤ i → i ≡ at + length (item (drop at paths))
-  unfolding item
-  spell-ends h =
-      let k : length (item (drop i paths)) ≡ 0 = rw (drop_of_length-le paths) in
-      omega arith
-
--- ---- the loop that counts the items behind the first has come to i, and to n
-
-pub record Counting (paths : List ℕ) (n i : ℕ) : Type 0 where
-  pub rest : n + length (items_behind (drop i paths)) ≡ length (items_behind paths)
-  pub few : n ≤ i
-  pub within : i ≤ length paths
-
-pub count-starts : (paths : List ℕ) → Counting paths 0 0
-count-starts paths = record { rest = omega arith; few = omega arith; within = omega arith }
-
-module _ {paths : List ℕ} {n i : ℕ} (p : Counting paths n i) where
-  pub count-zero : i < length paths → get_or paths i 0 ≡ 0 → {m : ℕ} → m ≡ n + 1 → Counting paths m (i + 1)
-  unfolding items_behind
-  count-zero h e f =
-      let k : length (items_behind (drop i paths)) ≡ suc (length (items_behind (drop (i + 1) paths))) = rw (add-one i, drop-cons paths i 0) (simp (eq-eqb _ _ e)) in
-      record { rest = omega arith; few = omega arith; within = omega arith }
-
-  pub count-other : i < length paths → (get_or paths i 0 ≡ 0 → ⊥) → {m : ℕ} → m ≡ n → Counting paths m (i + 1)
-  unfolding items_behind
-  count-other h e f =
-      let k : length (items_behind (drop i paths)) ≡ length (items_behind (drop (i + 1) paths)) = rw (add-one i, drop-cons paths i 0) (simp (ne_eqb _ _ e)) in
-      record { rest = omega arith; few = omega arith; within = omega arith }
-
-  pub count-ends : length paths ≤ i → n ≡ length (items_behind paths)
-  unfolding items_behind
-  count-ends h =
-      let k : length (items_behind (drop i paths)) ≡ 0 = rw (drop_of_length-le paths) in
-      omega arith
+pub zeros-counted : (s : List ℕ) → length (items_behind s) ≡ length (filter (λ b. eqb b 0) s)
+unfolding items_behind
+zeros-counted s = is_count_by (λ t. length (items_behind t)) (λ b. eqb b 0) refl (λ b t. by t (eqb b 0)) s ∙ sym (length-filter (λ b. eqb b 0) s)
+  where
+    by : (t : List ℕ) (z : Bool) → length (pick z (item t ∷ items_behind t) (items_behind t)) ≡ cond z (1 + length (items_behind t)) (length (items_behind t))
+    by t true = omega arith
+    by t false = refl
 
 -- ---- an item where it stands
 

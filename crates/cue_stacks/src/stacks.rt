@@ -10,7 +10,7 @@ use crate::items::{item_end, items_behind};
 use directories::lookups::read_reached;
 use disc::answers::DONE;
 use disc::counts::add_counts;
-use disc::moves::{clear, least};
+use disc::moves::clear;
 use disc::places::Mount;
 use disc::refusals::Refusal;
 use disc::replies::{Reply, refusal};
@@ -89,7 +89,7 @@ fn read_item(
     requires { (p.going ≡ true) × On (length paths.now) (length out.old) (min (length lengths.old) (length answers.old)) p }
     ensures { Turns (λ path. ran (disc image.now) (read_path_of matching mount (length work.old) root path)) paths.now p out.old lengths.old answers.old result out.new lengths.new answers.new }
 {
-    let rows = least(lengths.len(), answers.len());
+    let rows = lengths.len().min(answers.len());
     let from = p.from;
     let filled = p.filled;
     let end = item_end(paths, from);
@@ -158,7 +158,7 @@ pub fn read_all(
     ensures work_after { work.new ≡ replicate (length work.old) 0 }
 {
     let behind = items_behind(paths);
-    if least(lengths.len(), answers.len()) <= behind {
+    if lengths.len().min(answers.len()) <= behind {
         clear(work);
         return refusal(Refusal::TooMany.number(), 0);
     }

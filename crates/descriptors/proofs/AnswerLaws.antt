@@ -1,5 +1,6 @@
 -- What an answer tells: the gate was passed and the record is that of the bytes, and every refusal is `Malformed`, or where bodies are checked `BadCrc`.
 -- Of an anchor and a partition descriptor a caller has `x ≡ read_anchor check s` of the call and, say, `x ≡ Read a` of an arm. Assumes nothing.
+use Rattle.std.specs.Prelude.{Result, Ok, Err}
 use Prim.Native.Nat.{ℕ}
 use mathlib.Core.Path.{◌≡◌, refl, sym, ◌∙◌}
 use mathlib.Core.Bool.{Bool, true}
@@ -12,56 +13,50 @@ use Rattle.disc.specs.declared.refusals.Refusal.{Refusal}
 use Rattle.disc.specs.declared.refusals.Refusal.TheVariants.{Malformed, BadCrc}
 use Rattle.tags.specs.Tags.{read_head}
 use Rattle.tags.specs.declared.DescriptorTag.{DescriptorTag}
-use Rattle.tags.specs.declared.TagRead.{TagRead}
-use Rattle.tags.specs.declared.TagRead.TheVariants.{Read as ATag, Refused as NoTag}
 use Rattle.tags.proofs.HeadLaws.{head_read, head-refused, gated-answered, gated-refused}
 use Rattle.names.specs.Names.{name_of_field}
 use Rattle.names.proofs.Promises.{field-refused}
 use Rattle.descriptors.specs.Volumes.{anchor_of, anchor_after, read_anchor, labelled, primary_of, primary_behind, read_primary, partition_of, partition_after, read_partition, logical_of, logical_behind, read_logical}
 use Rattle.descriptors.specs.FileSets.{file_set_of, read_file_set}
 use Rattle.descriptors.specs.declared.anchors.AnchorVolumeDescriptorPointer.{AnchorVolumeDescriptorPointer}
-use Rattle.descriptors.specs.declared.anchors.AnchorRead.{AnchorRead}
-use Rattle.descriptors.specs.declared.anchors.AnchorRead.TheVariants.{Read as AnAnchor, Refused as NoAnchor}
 use Rattle.descriptors.specs.declared.primaries.PrimaryVolumeDescriptor.{PrimaryVolumeDescriptor}
 use Rattle.descriptors.specs.declared.logicals.LogicalVolumeDescriptor.{LogicalVolumeDescriptor}
 use Rattle.descriptors.specs.declared.file_sets.FileSetDescriptor.{FileSetDescriptor}
 use Rattle.descriptors.specs.declared.partitions.PartitionDescriptor.{PartitionDescriptor}
-use Rattle.descriptors.specs.declared.partitions.PartitionRead.{PartitionRead}
-use Rattle.descriptors.specs.declared.partitions.PartitionRead.TheVariants.{Read as APartition, Refused as NoPartition}
 use Rattle.descriptors.specs.Accepted.{GoodAnchor, GoodPartition, GoodPrimary, GoodLogical, GoodFileSet}
 
 module _ (check : Bool) (s : List ℕ) where
-  pub anchor-good : {x : AnchorRead} {a : AnchorVolumeDescriptorPointer} → x ≡ read_anchor check s → x ≡ AnAnchor a → GoodAnchor check s a
+  pub anchor-good : {x : Result AnchorVolumeDescriptorPointer Refusal} {a : AnchorVolumeDescriptorPointer} → x ≡ read_anchor check s → x ≡ Ok a → GoodAnchor check s a
   unfolding read_anchor
   anchor-good {x} {a} e h = told (read_head check s 2 32) refl (sym e ∙ h)
     where
-      told : (h : TagRead) → read_head check s 2 32 ≡ h → anchor_after s h ≡ AnAnchor a → GoodAnchor check s a
-      told (ATag t) e k = let p : a ≡ anchor_of s t = cc in record { head = rw p (head_read check s 2 32 e); is = rw p }
-      told (NoTag w) e k = absurd (let z : ◌≡◌ {A = ℕ} 0 1 = cc in omega arith)
+      told : (h : Result DescriptorTag Refusal) → read_head check s 2 32 ≡ h → anchor_after s h ≡ Ok a → GoodAnchor check s a
+      told (Ok t) e k = let p : a ≡ anchor_of s t = cc in record { head = rw p (head_read check s 2 32 e); is = rw p }
+      told (Err w) e k = absurd (let z : ◌≡◌ {A = ℕ} 0 1 = cc in omega arith)
 
-  pub anchor-refused : (P : Refusal → Type 0) → P Malformed → (check ≡ true → P BadCrc) → {x : AnchorRead} {r : Refusal} → x ≡ read_anchor check s → x ≡ NoAnchor r → P r
+  pub anchor-refused : (P : Refusal → Type 0) → P Malformed → (check ≡ true → P BadCrc) → {x : Result AnchorVolumeDescriptorPointer Refusal} {r : Refusal} → x ≡ read_anchor check s → x ≡ Err r → P r
   unfolding read_anchor
   anchor-refused P bad crc {x} {r} e h = told (read_head check s 2 32) refl (sym e ∙ h)
     where
-      told : (h : TagRead) → read_head check s 2 32 ≡ h → anchor_after s h ≡ NoAnchor r → P r
-      told (ATag t) e k = absurd (let z : ◌≡◌ {A = ℕ} 0 1 = cc in omega arith)
-      told (NoTag w) e k = let p : w ≡ r = cc in head-refused check s 2 32 P bad crc (rw p at e)
+      told : (h : Result DescriptorTag Refusal) → read_head check s 2 32 ≡ h → anchor_after s h ≡ Err r → P r
+      told (Ok t) e k = absurd (let z : ◌≡◌ {A = ℕ} 0 1 = cc in omega arith)
+      told (Err w) e k = let p : w ≡ r = cc in head-refused check s 2 32 P bad crc (rw p at e)
 
-  pub partition-good : {x : PartitionRead} {p : PartitionDescriptor} → x ≡ read_partition check s → x ≡ APartition p → GoodPartition check s p
+  pub partition-good : {x : Result PartitionDescriptor Refusal} {p : PartitionDescriptor} → x ≡ read_partition check s → x ≡ Ok p → GoodPartition check s p
   unfolding read_partition
   partition-good {x} {p} e h = told (read_head check s 5 196) refl (sym e ∙ h)
     where
-      told : (h : TagRead) → read_head check s 5 196 ≡ h → partition_after s h ≡ APartition p → GoodPartition check s p
-      told (ATag t) e k = let q : p ≡ partition_of s t = cc in record { head = rw q (head_read check s 5 196 e); is = rw q }
-      told (NoTag w) e k = absurd (let z : ◌≡◌ {A = ℕ} 0 1 = cc in omega arith)
+      told : (h : Result DescriptorTag Refusal) → read_head check s 5 196 ≡ h → partition_after s h ≡ Ok p → GoodPartition check s p
+      told (Ok t) e k = let q : p ≡ partition_of s t = cc in record { head = rw q (head_read check s 5 196 e); is = rw q }
+      told (Err w) e k = absurd (let z : ◌≡◌ {A = ℕ} 0 1 = cc in omega arith)
 
-  pub partition-refused : (P : Refusal → Type 0) → P Malformed → (check ≡ true → P BadCrc) → {x : PartitionRead} {r : Refusal} → x ≡ read_partition check s → x ≡ NoPartition r → P r
+  pub partition-refused : (P : Refusal → Type 0) → P Malformed → (check ≡ true → P BadCrc) → {x : Result PartitionDescriptor Refusal} {r : Refusal} → x ≡ read_partition check s → x ≡ Err r → P r
   unfolding read_partition
   partition-refused P bad crc {x} {r} e h = told (read_head check s 5 196) refl (sym e ∙ h)
     where
-      told : (h : TagRead) → read_head check s 5 196 ≡ h → partition_after s h ≡ NoPartition r → P r
-      told (ATag t) e k = absurd (let z : ◌≡◌ {A = ℕ} 0 1 = cc in omega arith)
-      told (NoTag w) e k = let p : w ≡ r = cc in head-refused check s 5 196 P bad crc (rw p at e)
+      told : (h : Result DescriptorTag Refusal) → read_head check s 5 196 ≡ h → partition_after s h ≡ Err r → P r
+      told (Ok t) e k = absurd (let z : ◌≡◌ {A = ℕ} 0 1 = cc in omega arith)
+      told (Err w) e k = let p : w ≡ r = cc in head-refused check s 5 196 P bad crc (rw p at e)
 
 -- ---- the descriptors whose answer is a struct
 

@@ -1,5 +1,4 @@
 -- Laws of the descriptors, lowest first.
-pub mod LabelLaws
 pub mod VolumeLaws
 pub mod FileSetLaws
 pub mod AnswerLaws

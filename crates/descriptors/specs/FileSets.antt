@@ -1,14 +1,11 @@
 -- The file set descriptor (ECMA-167 4/14.1): RULES 5.12.
 use Rattle.std.specs.Prelude.{ℕ, Bool, List}
-use Rattle.disc.specs.Refusals.{number}
 use Rattle.disc.specs.Ask.{Outcome}
-use Rattle.disc.specs.Ask.Outcome.{answered, refused}
-use Rattle.records.specs.Allocations.{long_of, no_long}
+use Rattle.disc.specs.Ask.Outcome.{answered}
+use Rattle.records.specs.Allocations.{long_of}
 use Rattle.tags.specs.Tags.{read_head, gated}
-use Rattle.tags.specs.Answers.{no_tag}
 use Rattle.tags.specs.declared.DescriptorTag.{DescriptorTag}
 use Rattle.descriptors.specs.declared.file_sets.FileSetDescriptor.{FileSetDescriptor}
-use Rattle.descriptors.specs.declared.file_sets.FileSetRead.{FileSetRead}
 
 -- The ICB of the root directory (4/14.1.15).
 abbrev pub file_set_of : List ℕ → DescriptorTag → FileSetDescriptor
@@ -17,11 +14,3 @@ file_set_of s t = record { tag = t; root_directory_icb = long_of s 400 }
 -- Reading a file set descriptor at the front of s, with bodies checked or not: id 256, 416 bytes.
 unfoldable pub read_file_set : Bool → List ℕ → Outcome FileSetDescriptor
 read_file_set check s = gated (read_head check s 256 416) (λ t. answered (file_set_of s t))
-
--- As the code reports it: the answer number, and zeros where it is a refusal.
-abbrev pub no_file_set : FileSetDescriptor
-no_file_set = record { tag = no_tag; root_directory_icb = no_long }
-
-abbrev pub file_set_read : Outcome FileSetDescriptor → FileSetRead
-file_set_read (answered d) = record { answer = 0; descriptor = d }
-file_set_read (refused r) = record { answer = number r; descriptor = no_file_set }

@@ -1,28 +1,19 @@
 -- The descriptors of a volume descriptor sequence, and the anchor that leads to it (ECMA-167 3/10): RULES 5.2 and 5.7 to 5.10. The first argument of
 -- a reader says whether bodies are checked.
-use Rattle.std.specs.Prelude.{ℕ, Bool, List, take, drop, replicate}
-use Rattle.disc.specs.Refusals.{number}
+use Rattle.std.specs.Prelude.{ℕ, Bool, List, take, drop, replicate, Result, Ok, Err}
 use Rattle.disc.specs.Ask.{Outcome}
 use Rattle.disc.specs.Ask.Outcome.{answered, refused}
 use Rattle.disc.specs.Moves.{over}
 use Rattle.records.specs.Bytes.{u16at, u32at}
-use Rattle.records.specs.Allocations.{extent_of, long_of, no_long}
+use Rattle.records.specs.Allocations.{extent_of, long_of}
 use Rattle.tags.specs.Tags.{read_head, gated}
-use Rattle.tags.specs.Answers.{no_tag}
 use Rattle.tags.specs.declared.DescriptorTag.{DescriptorTag}
-use Rattle.tags.specs.declared.TagRead.{TagRead}
-use Rattle.tags.specs.declared.TagRead.TheVariants.{Read as ATag, Refused as NoTag}
 use Rattle.names.specs.Names.{name_of_field}
 use Rattle.descriptors.specs.declared.anchors.AnchorVolumeDescriptorPointer.{AnchorVolumeDescriptorPointer}
-use Rattle.descriptors.specs.declared.anchors.AnchorRead.{AnchorRead}
-use Rattle.descriptors.specs.declared.anchors.AnchorRead.TheVariants.{Read as AnAnchor, Refused as NoAnchor}
 use Rattle.descriptors.specs.declared.primaries.PrimaryVolumeDescriptor.{PrimaryVolumeDescriptor}
-use Rattle.descriptors.specs.declared.primaries.PrimaryRead.{PrimaryRead}
 use Rattle.descriptors.specs.declared.partitions.PartitionDescriptor.{PartitionDescriptor}
-use Rattle.descriptors.specs.declared.partitions.PartitionRead.{PartitionRead}
-use Rattle.descriptors.specs.declared.partitions.PartitionRead.TheVariants.{Read as APartition, Refused as NoPartition}
 use Rattle.descriptors.specs.declared.logicals.LogicalVolumeDescriptor.{LogicalVolumeDescriptor}
-use Rattle.descriptors.specs.declared.logicals.LogicalRead.{LogicalRead}
+use Rattle.disc.specs.declared.refusals.Refusal.{Refusal}
 
 -- ---- anchor volume descriptor pointer: id 2, 32 bytes (3/10.2)
 
@@ -35,12 +26,12 @@ anchor_of s t = record {
 }
 
 -- After the gate: its refusal, or the anchor.
-abbrev pub anchor_after : List ℕ → TagRead → AnchorRead
-anchor_after s (NoTag r) = NoAnchor r
-anchor_after s (ATag t) = AnAnchor (anchor_of s t)
+abbrev pub anchor_after : List ℕ → Result DescriptorTag Refusal → Result AnchorVolumeDescriptorPointer Refusal
+anchor_after s (Err r) = Err r
+anchor_after s (Ok t) = Ok (anchor_of s t)
 
 -- Reading an anchor at the front of s.
-unfoldable pub read_anchor : Bool → List ℕ → AnchorRead
+unfoldable pub read_anchor : Bool → List ℕ → Result AnchorVolumeDescriptorPointer Refusal
 read_anchor check s = anchor_after s (read_head check s 2 32)
 
 -- ---- primary volume descriptor: id 1, 56 bytes (3/10.1)
@@ -66,19 +57,6 @@ primary_behind s t = labelled (name_of_field (take 32 (drop 24 s))) (primary_of 
 unfoldable pub read_primary : Bool → List ℕ → Outcome PrimaryVolumeDescriptor
 read_primary check s = gated (read_head check s 1 56) (primary_behind s)
 
--- As the code reports it: the answer number, and zeros where it is a refusal.
-abbrev pub no_primary : PrimaryVolumeDescriptor
-no_primary = record {
-  tag = no_tag;
-  volume_descriptor_sequence_number = 0;
-  primary_volume_descriptor_number = 0;
-  volume_identifier = replicate 32 0;
-}
-
-abbrev pub primary_read : Outcome PrimaryVolumeDescriptor → PrimaryRead
-primary_read (answered d) = record { answer = 0; descriptor = d }
-primary_read (refused r) = record { answer = number r; descriptor = no_primary }
-
 -- ---- partition descriptor: id 5, 196 bytes (3/10.5)
 
 -- Sequence number, flags, number, start and length in logical sectors (3/10.5.2 to 10.5.4, 10.5.8, 10.5.9).
@@ -93,12 +71,12 @@ partition_of s t = record {
 }
 
 -- After the gate: its refusal, or the descriptor.
-abbrev pub partition_after : List ℕ → TagRead → PartitionRead
-partition_after s (NoTag r) = NoPartition r
-partition_after s (ATag t) = APartition (partition_of s t)
+abbrev pub partition_after : List ℕ → Result DescriptorTag Refusal → Result PartitionDescriptor Refusal
+partition_after s (Err r) = Err r
+partition_after s (Ok t) = Ok (partition_of s t)
 
 -- Reading a partition descriptor at the front of s.
-unfoldable pub read_partition : Bool → List ℕ → PartitionRead
+unfoldable pub read_partition : Bool → List ℕ → Result PartitionDescriptor Refusal
 read_partition check s = partition_after s (read_head check s 5 196)
 
 -- ---- logical volume descriptor: id 6, 440 bytes (3/10.6)
@@ -127,20 +105,3 @@ logical_behind s t = labelled (name_of_field (take 128 (drop 84 s))) (logical_of
 -- Reading a logical volume descriptor at the front of s.
 unfoldable pub read_logical : Bool → List ℕ → Outcome LogicalVolumeDescriptor
 read_logical check s = gated (read_head check s 6 440) (logical_behind s)
-
--- As the code reports it.
-abbrev pub no_logical : LogicalVolumeDescriptor
-no_logical = record {
-  tag = no_tag;
-  volume_descriptor_sequence_number = 0;
-  logical_volume_identifier = replicate 128 0;
-  logical_block_size = 0;
-  file_set_descriptor_location = no_long;
-  map_table_length = 0;
-  number_of_partition_maps = 0;
-  partition_maps = replicate 24 0;
-}
-
-abbrev pub logical_read : Outcome LogicalVolumeDescriptor → LogicalRead
-logical_read (answered d) = record { answer = 0; descriptor = d }
-logical_read (refused r) = record { answer = number r; descriptor = no_logical }

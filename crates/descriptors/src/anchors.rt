@@ -4,8 +4,8 @@ ghost use Rattle.descriptors.specs.Volumes.{read_anchor};
 
 use disc::refusals::Refusal;
 use records::allocations::{ExtentAd, extent_at};
+use tags::DescriptorTag;
 use tags::heads::read_head;
-use tags::{DescriptorTag, TagRead};
 
 // ECMA-167 3/10.2.
 const ID: u16 = 2;
@@ -20,23 +20,15 @@ pub struct AnchorVolumeDescriptorPointer {
     pub reserve_volume_descriptor_sequence: ExtentAd,
 }
 
-#[derive(Clone, Copy)]
-pub enum AnchorRead {
-    Read(AnchorVolumeDescriptorPointer),
-    Refused(Refusal),
-}
-
 impl AnchorVolumeDescriptorPointer {
-    pub fn parse(check: bool, s: &[u8]) -> AnchorRead
+    pub fn parse(check: bool, s: &[u8]) -> Result<AnchorVolumeDescriptorPointer, Refusal>
         ensures { result ≡ read_anchor check s.now }
     {
-        match read_head(check, s, ID, SIZE) {
-            TagRead::Refused(why) => AnchorRead::Refused(why),
-            TagRead::Read(t) => AnchorRead::Read(AnchorVolumeDescriptorPointer {
-                tag: t,
-                main_volume_descriptor_sequence: extent_at(s, 16),
-                reserve_volume_descriptor_sequence: extent_at(s, 24),
-            }),
-        }
+        let t = read_head(check, s, ID, SIZE)?;
+        Ok(AnchorVolumeDescriptorPointer {
+            tag: t,
+            main_volume_descriptor_sequence: extent_at(s, 16),
+            reserve_volume_descriptor_sequence: extent_at(s, 24),
+        })
     }
 }

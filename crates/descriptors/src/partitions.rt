@@ -4,8 +4,8 @@ ghost use Rattle.descriptors.specs.Volumes.{read_partition};
 
 use disc::refusals::Refusal;
 use records::bytes::{le16, le32};
+use tags::DescriptorTag;
 use tags::heads::read_head;
-use tags::{DescriptorTag, TagRead};
 
 // ECMA-167 3/10.5.
 const ID: u16 = 5;
@@ -24,26 +24,18 @@ pub struct PartitionDescriptor {
     pub partition_length: u32,
 }
 
-#[derive(Clone, Copy)]
-pub enum PartitionRead {
-    Read(PartitionDescriptor),
-    Refused(Refusal),
-}
-
 impl PartitionDescriptor {
-    pub fn parse(check: bool, s: &[u8]) -> PartitionRead
+    pub fn parse(check: bool, s: &[u8]) -> Result<PartitionDescriptor, Refusal>
         ensures { result ≡ read_partition check s.now }
     {
-        match read_head(check, s, ID, SIZE) {
-            TagRead::Refused(why) => PartitionRead::Refused(why),
-            TagRead::Read(t) => PartitionRead::Read(PartitionDescriptor {
-                tag: t,
-                volume_descriptor_sequence_number: le32(s, 16),
-                partition_flags: le16(s, 20),
-                partition_number: le16(s, 22),
-                partition_starting_location: le32(s, 188),
-                partition_length: le32(s, 192),
-            }),
-        }
+        let t = read_head(check, s, ID, SIZE)?;
+        Ok(PartitionDescriptor {
+            tag: t,
+            volume_descriptor_sequence_number: le32(s, 16),
+            partition_flags: le16(s, 20),
+            partition_number: le16(s, 22),
+            partition_starting_location: le32(s, 188),
+            partition_length: le32(s, 192),
+        })
     }
 }

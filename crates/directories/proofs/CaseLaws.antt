@@ -1,9 +1,9 @@
 -- What a choice of matching doesn't tell apart: paths whose components are equal under its fold are looked up alike. Under the choices that ignore it,
 -- that is ASCII case. Assumes nothing.
+use Rattle.std.specs.Prelude.{Option, Some, None}
 use mathlib.Core.Path.{◌≡◌, refl, ap, sym, ◌∙◌}
 use mathlib.Core.Bool.{Bool, true, false}
 use mathlib.Core.List.{List, [], ◌∷◌, map}
-use mathlib.Core.Option.{Option, none, some}
 use Prim.Native.Nat.{ℕ, ◌+◌}
 use native.Mathlib.Omega.{arith}
 use Rattle.disc.specs.declared.places.Mount.{Mount}
@@ -57,8 +57,8 @@ alike-onward (refused why) n f f' h = record { to = refl; sectors = refl }
 module _ (d : Disc) (matching : Matching) (v : Mount) (work : ℕ) where
   alike-on : (cs cs' : List Component) (c c' : Component) → ((icb : LongAd) (directory : Bool) → Alike (walk d matching v work cs icb directory) (walk d matching v work cs' icb directory))
       → (o : Option Entry) → Alike (on d matching v work c cs o) (on d matching v work c' cs' o)
-  alike-on cs cs' c c' h none = rw (ran-done, ran-done) (record { to = refl; sectors = refl })
-  alike-on cs cs' c c' h (some e) = h e.identifier.icb (is_directory e.identifier)
+  alike-on cs cs' c c' h None = rw (ran-done, ran-done) (record { to = refl; sectors = refl })
+  alike-on cs cs' c c' h (Some e) = h e.identifier.icb (is_directory e.identifier)
 
   alike : (cs cs' : List Component) → map (folded (fold_in matching)) cs ≡ map (folded (fold_in matching)) cs' → (icb : LongAd) (directory : Bool) → Alike (walk d matching v work cs icb directory) (walk d matching v work cs' icb directory)
   unfolding seeking

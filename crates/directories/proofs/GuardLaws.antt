@@ -1,9 +1,9 @@
 -- A directory, its listing, and what is asked of a path, on a volume whose descriptors' bodies are checked: each is the same without that check, with every
 -- descriptor marked where it is parsed, the entries of directories among them. Assumes nothing.
+use Rattle.std.specs.Prelude.{Option, Some, None}
 use mathlib.Core.Path.{◌≡◌}
 use mathlib.Core.Bool.{Bool, true, false}
 use mathlib.Core.List.{List, [], ◌∷◌}
-use mathlib.Core.Option.{Option, none, some}
 use Prim.Native.Nat.{ℕ}
 use native.Mathlib.Omega.{arith}
 use lib.ListN.{length}
@@ -61,8 +61,8 @@ module _ (m : Mount) (c : is_checked m ≡ true) (work : ℕ) where
             → Guards right_at
             (or_lost x o (λ e. seeking matching m work cs e.identifier.icb (is_directory e.identifier)))
             (or_lost x o (λ e. seeking matching (unchecked m) work cs e.identifier.icb (is_directory e.identifier)))
-        by ih none = done-guards (lost x)
-        by ih (some e) = ih e
+        by ih None = done-guards (lost x)
+        by ih (Some e) = ih e
 
     module _ (root : LongAd) (path : List ℕ) where
       pub seeking-guards : Guards right_at (seek_path matching m work root path) (seek_path matching (unchecked m) work root path)

@@ -1,8 +1,8 @@
 -- What a walk leaves in the work space, a step at a time. Assumes nothing.
+use Rattle.std.specs.Prelude.{Option, Some, None}
 use mathlib.Core.Path.{◌≡◌, refl, sym, ◌∙◌}
 use mathlib.Core.Bool.{true, false}
 use mathlib.Core.List.{List, []}
-use mathlib.Core.Option.{Option, none, some}
 use Prim.Native.Nat.{ℕ, ◌+◌, ◌-◌, ◌≤◌, ◌<◌}
 use lib.ListN.{length, take, drop, drop_of_length-le}
 use borrow.Author.Tests.{ne_eqb}
@@ -61,8 +61,8 @@ module _ (d : Disc) (matching : Matching) (v : Mount) (path : List ℕ) {p : Pat
           → place_leaves d matching v path (beyond_of (named_of o) n from end) w'
           ≡ walked_on o w' (λ e. walk_leaves d matching v (components_from end (drop end path)) e.identifier.icb (is_directory e.identifier) w')
       unfolding beyond_of place_leaves
-      by-outcome (answered (some e)) n w' = refl
-      by-outcome (answered none) n w' = refl
+      by-outcome (answered (Some e)) n w' = refl
+      by-outcome (answered None) n w' = refl
       by-outcome (refused r) n w' = simp (ne_eqb _ _ (refusal-numbered r)) refl
 
       pub leaves-entered : {e : Entered} → e ≡ entered_of (ran d (entering matching v (length w) p.icb here)) → (n : ℕ)

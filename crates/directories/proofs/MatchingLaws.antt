@@ -1,9 +1,9 @@
 -- How the choices of matching agree along a path, what the second tells apart, and at which component the third is refused. Assumes nothing.
+use Rattle.std.specs.Prelude.{Option, Some, None}
 use mathlib.Core.Path.{◌≡◌, refl, sym, ap, ◌∙◌}
 use mathlib.Core.Bool.{Bool, true, false}
 use mathlib.Core.List.{List, [], ◌∷◌}
 use mathlib.Core.Logic.{◌⊎◌, inl, inr}
-use mathlib.Core.Option.{Option, none, some}
 use Prim.Native.Nat.{ℕ, ◌+◌}
 use native.Mathlib.Omega.{arith}
 use Rattle.disc.specs.declared.places.Mount.{Mount}
@@ -106,8 +106,8 @@ module _ (d : Disc) (v : Mount) (work : ℕ) where
           → ((e : Entry) → ((walk d Unambiguous v work cs e.identifier.icb (is_directory e.identifier)).outcome ≡ refused Ambiguous → ⊥)
           → walk d CaseIgnored v work cs e.identifier.icb (is_directory e.identifier) ≡ walk d Unambiguous v work cs e.identifier.icb (is_directory e.identifier))
           → (x : Option Entry) → o ≡ answered x → on d CaseIgnored v work c cs x ≡ on d Unambiguous v work c cs x
-      by o m q ih none e = refl
-      by o m q ih (some y) e = ih y (λ k. q (rw e k))
+      by o m q ih None e = refl
+      by o m q ih (Some y) e = ih y (λ k. q (rw e k))
 
   -- ---- the second choice and the third
 
@@ -141,10 +141,10 @@ module _ (d : Disc) (v : Mount) (work : ℕ) where
           → onward o (ran d (entering AsWritten v work icb c.bytes)).count (on d AsWritten v work c cs)
           ≡ onward p (ran d (entering Unambiguous v work icb c.bytes)).count (on d Unambiguous v work c cs)
       by (refused why) p x y ih h k = never h
-      by (answered none) p x y ih h k = absurd (let z = rw ran-done at h in let w : ◌≡◌ {A = ℕ} 0 1 = cc in omega arith)
-      by (answered (some e)) (refused why) x y ih h k = never k
-      by (answered (some e)) (answered none) x y ih h k = absurd (let z = rw ran-done at k in let w : ◌≡◌ {A = ℕ} 0 1 = cc in omega arith)
-      by (answered (some e)) (answered (some f)) x y ih h k =
+      by (answered None) p x y ih h k = absurd (let z = rw ran-done at h in let w : ◌≡◌ {A = ℕ} 0 1 = cc in omega arith)
+      by (answered (Some e)) (refused why) x y ih h k = never k
+      by (answered (Some e)) (answered None) x y ih h k = absurd (let z = rw ran-done at k in let w : ◌≡◌ {A = ℕ} 0 1 = cc in omega arith)
+      by (answered (Some e)) (answered (Some f)) x y ih h k =
           let t = enters-takes d AsWritten v work icb c.bytes x in
           let u = enters-takes d Unambiguous v work icb c.bytes y in
           let z : e ≡ f = written_one icb c.bytes t u in
@@ -197,8 +197,8 @@ module _ (d : Disc) (v : Mount) (work : ℕ) where
       by : ((e : Entry) → Takes d CaseIgnored v work icb c.bytes e
           → walk d Unambiguous v work cs e.identifier.icb (is_directory e.identifier) ≡ walk d CaseIgnored v work cs e.identifier.icb (is_directory e.identifier))
           → (x : Option Entry) → (ran d (entering CaseIgnored v work icb c.bytes)).outcome ≡ answered x → on d Unambiguous v work c cs x ≡ on d CaseIgnored v work c cs x
-      by ih none q = refl
-      by ih (some e) q = ih e (enters-takes d CaseIgnored v work icb c.bytes q)
+      by ih None q = refl
+      by ih (Some e) q = ih e (enters-takes d CaseIgnored v work icb c.bytes q)
 
   -- what the second takes, the first does
   written-case : (c : Component) (cs : List Component) (icb : LongAd) → ApartOn d v work (c ∷ cs) icb true → {e : Entry} → Takes d AsWritten v work icb c.bytes e → Takes d CaseIgnored v work icb c.bytes e
@@ -237,7 +237,7 @@ module _ (d : Disc) (v : Mount) (work : ℕ) where
           ∙ ap (λ (r : Ran (Option Entry)). onward r.outcome r.count (on d CaseIgnored v work c cs)) e
           ∙ sym (walk_is d CaseIgnored v work c cs icb)
 
-      behind : (e : Entry) → (ran d (entering AsWritten v work icb c.bytes)).outcome ≡ answered (some e)
+      behind : (e : Entry) → (ran d (entering AsWritten v work icb c.bytes)).outcome ≡ answered (Some e)
           → (walk d AsWritten v work cs e.identifier.icb (is_directory e.identifier) ≡ walk d CaseIgnored v work cs e.identifier.icb (is_directory e.identifier))
           ⊎ IsLost (walk d AsWritten v work cs e.identifier.icb (is_directory e.identifier))
           → (walk d AsWritten v work (c ∷ cs) icb true ≡ walk d CaseIgnored v work (c ∷ cs) icb true) ⊎ IsLost (walk d AsWritten v work (c ∷ cs) icb true)
@@ -245,7 +245,7 @@ module _ (d : Disc) (v : Mount) (work : ℕ) where
           let t = enters-takes d AsWritten v work icb c.bytes q in
           inl
           (same (one-taken d v work icb c.bytes AsWritten CaseIgnored t (written-case c cs icb a t))
-          (λ x k. let z : x ≡ some e = (let y : answered x ≡ answered (some e) = sym k ∙ q in cc) in rw z p))
+          (λ x k. let z : x ≡ Some e = (let y : answered x ≡ answered (Some e) = sym k ∙ q in cc) in rw z p))
       behind e q (inr l) = inr (record { component = l.component; is = ap (λ (r : Ran Sought). r.outcome) (walk_is d AsWritten v work c cs icb) ∙ rw q l.is })
 
       by : (o : Outcome (Option Entry)) → (ran d (entering AsWritten v work icb c.bytes)).outcome ≡ o
@@ -254,8 +254,8 @@ module _ (d : Disc) (v : Mount) (work : ℕ) where
           ⊎ IsLost (walk d AsWritten v work cs e.identifier.icb (is_directory e.identifier)))
           → (walk d AsWritten v work (c ∷ cs) icb true ≡ walk d CaseIgnored v work (c ∷ cs) icb true) ⊎ IsLost (walk d AsWritten v work (c ∷ cs) icb true)
       by (refused why) q ih = inl (same (written-refused icb c.bytes q) (λ x k. never (sym q ∙ k)))
-      by (answered none) q ih = inr (record { component = c; is = ap (λ (r : Ran Sought). r.outcome) (walk_is d AsWritten v work c cs icb) ∙ rw (q, ran-done) refl })
-      by (answered (some e)) q ih = behind e q (ih e (written-case c cs icb a (enters-takes d AsWritten v work icb c.bytes q)))
+      by (answered None) q ih = inr (record { component = c; is = ap (λ (r : Ran Sought). r.outcome) (walk_is d AsWritten v work c cs icb) ∙ rw (q, ran-done) refl })
+      by (answered (Some e)) q ih = behind e q (ih e (written-case c cs icb a (enters-takes d AsWritten v work icb c.bytes q)))
 
 -- ---- at which component of a path several entries match
 
@@ -310,7 +310,7 @@ module _ (d : Disc) (v : Mount) (work : ℕ) where
         file [] icb k = never (let z = rw ran-done at k in sym z)
         file (x ∷ ds) icb k = never (let z = rw ran-done at k in sym z)
 
-        into : (e : Entry) → (ran d (entering Unambiguous v work from c.bytes)).outcome ≡ answered (some e)
+        into : (e : Entry) → (ran d (entering Unambiguous v work from c.bytes)).outcome ≡ answered (Some e)
             → ((icb : LongAd) → (walk d Unambiguous v work cs icb true).outcome ≡ refused Ambiguous → Doubles d v work cs icb)
             → (t : Bool) → is_directory e.identifier ≡ t → (walk d Unambiguous v work cs e.identifier.icb t).outcome ≡ refused Ambiguous → Doubles d v work (c ∷ cs) from
         into e q ih true t k =
@@ -334,5 +334,5 @@ module _ (d : Disc) (v : Mount) (work : ℕ) where
             → ((icb : LongAd) → (walk d Unambiguous v work cs icb true).outcome ≡ refused Ambiguous → Doubles d v work cs icb)
             → (onward o n (on d Unambiguous v work c cs)).outcome ≡ refused Ambiguous → Doubles d v work (c ∷ cs) from
         by (refused why) n q ih k = several-here c cs from (let z : why ≡ Ambiguous = cc in rw z at q)
-        by (answered none) n q ih k = never (let z = rw ran-done at k in sym z)
-        by (answered (some e)) n q ih k = into e q ih (is_directory e.identifier) refl k
+        by (answered None) n q ih k = never (let z = rw ran-done at k in sym z)
+        by (answered (Some e)) n q ih k = into e q ih (is_directory e.identifier) refl k

@@ -1,8 +1,8 @@
 -- A component that isn't there, wherever it stands in a path: the walk is lost at it, whatever stands behind it. Assumes nothing.
+use Rattle.std.specs.Prelude.{None}
 use mathlib.Core.Path.{◌≡◌, refl, ap, ◌∙◌}
 use mathlib.Core.Bool.{true}
 use mathlib.Core.List.{List, [], ◌∷◌, ◌++◌}
-use mathlib.Core.Option.{none}
 use Prim.Native.Nat.{ℕ, ◌+◌}
 use native.Mathlib.Nat.{add-zero}
 use Rattle.disc.specs.declared.places.Mount.{Mount}
@@ -25,7 +25,7 @@ use Rattle.directories.specs.Lookups.Sought.{lost}
 use Rattle.directories.proofs.PathLaws.{walk_is, leads-on}
 
 -- where no entry answers, none is chosen
-none-chosen : (matching : Matching) (name : List ℕ) (es : List Entry) → NoneAnswers (fold_in matching) name es → chosen matching (all_named (fold_in matching) name es) ≡ answered none
+none-chosen : (matching : Matching) (name : List ℕ) (es : List Entry) → NoneAnswers (fold_in matching) name es → chosen matching (all_named (fold_in matching) name es) ≡ answered None
 unfolding all_named chosen NoneAnswers
 none-chosen matching name [] n = refl
 none-chosen matching name (e ∷ es) n = rw n.0 (none-chosen matching name es n.1)

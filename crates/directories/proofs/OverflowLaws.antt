@@ -1,8 +1,8 @@
 -- At which component of a path the work space is too small. Assumes nothing.
+use Rattle.std.specs.Prelude.{Option, Some, None}
 use mathlib.Core.Path.{◌≡◌, refl, sym, ap, ◌∙◌}
 use mathlib.Core.Bool.{Bool, true, false}
 use mathlib.Core.List.{List, [], ◌∷◌}
-use mathlib.Core.Option.{Option, none, some}
 use Prim.Native.Nat.{ℕ, ◌+◌}
 use native.Mathlib.Omega.{arith}
 use lib.ListN.{length}
@@ -75,7 +75,7 @@ module _ (d : Disc) (matching : Matching) (v : Mount) (work : ℕ) where
         file [] icb k = never (let z = rw ran-done at k in sym z)
         file (x ∷ ds) icb k = never (let z = rw ran-done at k in sym z)
 
-        into : (e : Entry) → (ran d (entering matching v work from c.bytes)).outcome ≡ answered (some e) → ((icb : LongAd) → (walk d matching v work cs icb true).outcome ≡ refused NoWork → Overflows d matching v work cs icb)
+        into : (e : Entry) → (ran d (entering matching v work from c.bytes)).outcome ≡ answered (Some e) → ((icb : LongAd) → (walk d matching v work cs icb true).outcome ≡ refused NoWork → Overflows d matching v work cs icb)
             → (t : Bool) → is_directory e.identifier ≡ t → (walk d matching v work cs e.identifier.icb t).outcome ≡ refused NoWork → Overflows d matching v work (c ∷ cs) from
         into e q ih true t k =
             let o = ih e.identifier.icb k in
@@ -95,5 +95,5 @@ module _ (d : Disc) (matching : Matching) (v : Mount) (work : ℕ) where
         by : (o : Outcome (Option Entry)) (n : ℕ) → (ran d (entering matching v work from c.bytes)).outcome ≡ o → ((icb : LongAd) → (walk d matching v work cs icb true).outcome ≡ refused NoWork → Overflows d matching v work cs icb)
             → (onward o n (on d matching v work c cs)).outcome ≡ refused NoWork → Overflows d matching v work (c ∷ cs) from
         by (refused why) n q ih k = full-here c cs from (let z : why ≡ NoWork = cc in rw z at q)
-        by (answered none) n q ih k = never (let z = rw ran-done at k in sym z)
-        by (answered (some e)) n q ih k = into e q ih (is_directory e.identifier) refl k
+        by (answered None) n q ih k = never (let z = rw ran-done at k in sym z)
+        by (answered (Some e)) n q ih k = into e q ih (is_directory e.identifier) refl k

@@ -1,8 +1,8 @@
 -- Where the components of a path lead, and what the last of them takes there. Assumes nothing.
+use Rattle.std.specs.Prelude.{Option, Some, None}
 use mathlib.Core.Path.{◌≡◌, refl, sym, ap, ◌∙◌}
 use mathlib.Core.Bool.{Bool, true, false}
 use mathlib.Core.List.{List, [], ◌∷◌, ◌++◌}
-use mathlib.Core.Option.{Option, none, some}
 use Prim.Native.Nat.{ℕ, ◌+◌}
 use native.Mathlib.Nat.{zero-add, add_assoc, add-zero}
 use native.Mathlib.Omega.{arith}
@@ -59,27 +59,27 @@ module _ (d : Disc) (matching : Matching) (v : Mount) (work : ℕ) (icb : LongAd
       record { bytes = b; read = r; all = before ++ e ∷ rest; parsed = k; takes = only-wins (fold_in matching) name matching before e rest n h m }
 
   -- what is taken is the first in any case
-  pub takes_first_lem : {e : Entry} (t : Takes d matching v work icb name e) → first_named (fold_in matching) name t.all ≡ some e
+  pub takes_first_lem : {e : Entry} (t : Takes d matching v work icb name e) → first_named (fold_in matching) name t.all ≡ Some e
   takes_first_lem t = chosen-is-first matching (fold_in matching) name t.all t.takes
 
   pub entering-is : (ran d (entering matching v work icb name)).outcome ≡ and_then (ran d (directory_bytes v work icb)).outcome (find_in (is_checked v) matching name)
   unfolding entering
   entering-is = ap (λ (r : Ran (Option Entry)). r.outcome) (ran-known d (directory_bytes v work icb) (find_in (is_checked v) matching name))
 
-  pub takes-enters : {e : Entry} → Takes d matching v work icb name e → ran d (entering matching v work icb name) ≡ record { outcome = answered (some e); count = (ran d (directory_bytes v work icb)).count }
+  pub takes-enters : {e : Entry} → Takes d matching v work icb name e → ran d (entering matching v work icb name) ≡ record { outcome = answered (Some e); count = (ran d (directory_bytes v work icb)).count }
   unfolding entering find_in
   takes-enters t = ran-known d (directory_bytes v work icb) (find_in (is_checked v) matching name) ∙ rw (t.read, t.parsed, t.takes)
 
-  pub enters-takes : {e : Entry} → (ran d (entering matching v work icb name)).outcome ≡ answered (some e) → Takes d matching v work icb name e
+  pub enters-takes : {e : Entry} → (ran d (entering matching v work icb name)).outcome ≡ answered (Some e) → Takes d matching v work icb name e
   unfolding find_in
   enters-takes {e} h = by_bytes (ran d (directory_bytes v work icb)).outcome refl (sym entering-is ∙ h)
     where
       by_entries : (b : List ℕ) → (ran d (directory_bytes v work icb)).outcome ≡ answered b → (o : Outcome (List Entry)) → entries (is_checked v) b ≡ o
-          → and_then o (λ es. chosen matching (all_named (fold_in matching) name es)) ≡ answered (some e) → Takes d matching v work icb name e
+          → and_then o (λ es. chosen matching (all_named (fold_in matching) name es)) ≡ answered (Some e) → Takes d matching v work icb name e
       by_entries b r (answered es) p k = record { bytes = b; read = r; all = es; parsed = p; takes = k }
       by_entries b r (refused why) p k = never k
 
-      by_bytes : (o : Outcome (List ℕ)) → (ran d (directory_bytes v work icb)).outcome ≡ o → and_then o (find_in (is_checked v) matching name) ≡ answered (some e) → Takes d matching v work icb name e
+      by_bytes : (o : Outcome (List ℕ)) → (ran d (directory_bytes v work icb)).outcome ≡ o → and_then o (find_in (is_checked v) matching name) ≡ answered (Some e) → Takes d matching v work icb name e
       by_bytes (answered b) r k = by_entries b r (entries (is_checked v) b) refl k
       by_bytes (refused why) r k = never k
 
@@ -138,7 +138,7 @@ module _ (d : Disc) (matching : Matching) (v : Mount) (work : ℕ) where
       by (ran d (entering matching v work from x.bytes)).outcome (ran d (entering matching v work from x.bytes)).count refl (λ icb k. reached-led cs c others icb k)
       (sym (ap (λ (r : Ran Sought). r.outcome) (walk_is x (cs ++ c ∷ others) from)) ∙ h)
     where
-      into : (e : Entry) → (ran d (entering matching v work from x.bytes)).outcome ≡ answered (some e) → ((icb : LongAd) → ((walk d matching v work) (cs ++ c ∷ others) icb true).outcome ≡ answered (reached i) → Led d matching v work cs icb)
+      into : (e : Entry) → (ran d (entering matching v work from x.bytes)).outcome ≡ answered (Some e) → ((icb : LongAd) → ((walk d matching v work) (cs ++ c ∷ others) icb true).outcome ≡ answered (reached i) → Led d matching v work cs icb)
           → (t : Bool) → is_directory e.identifier ≡ t → ((walk d matching v work) (cs ++ c ∷ others) e.identifier.icb t).outcome ≡ answered (reached i) → Led d matching v work (x ∷ cs) from
       into e q ih true t k =
           let l = ih e.identifier.icb k in
@@ -148,8 +148,8 @@ module _ (d : Disc) (matching : Matching) (v : Mount) (work : ℕ) where
       by : (o : Outcome (Option Entry)) (n : ℕ) → (ran d (entering matching v work from x.bytes)).outcome ≡ o → ((icb : LongAd) → ((walk d matching v work) (cs ++ c ∷ others) icb true).outcome ≡ answered (reached i) → Led d matching v work cs icb)
           → (onward o n (on x (cs ++ c ∷ others))).outcome ≡ answered (reached i) → Led d matching v work (x ∷ cs) from
       by (refused why) n q ih k = never k
-      by (answered none) n q ih k = absurd (let z = rw ran-done at k in let w : ◌≡◌ {A = ℕ} 0 1 = cc in omega arith)
-      by (answered (some e)) n q ih k = into e q ih (is_directory e.identifier) refl k
+      by (answered None) n q ih k = absurd (let z = rw ran-done at k in let w : ◌≡◌ {A = ℕ} 0 1 = cc in omega arith)
+      by (answered (Some e)) n q ih k = into e q ih (is_directory e.identifier) refl k
 
   -- ---- the last component
 
@@ -164,8 +164,8 @@ module _ (d : Disc) (matching : Matching) (v : Mount) (work : ℕ) where
       (walk_is c [] to ∙ rw (ran-known d (directory_bytes v work to) (find_in (is_checked v) matching c.bytes), r, p) (by (chosen matching (all_named (fold_in matching) c.bytes es)) (ran d (directory_bytes v work to)).count))
     where
       by : (o : Outcome (Option Entry)) (n : ℕ) → onward o n (on c []) ≡ record { outcome = last_in c o; count = n }
-      by (answered none) n = rw (ran-done, add-zero)
-      by (answered (some e)) n = rw (ran-done, add-zero)
+      by (answered None) n = rw (ran-done, add-zero)
+      by (answered (Some e)) n = rw (ran-done, add-zero)
       by (refused why) n = refl
 
   -- one that was reached was taken there
@@ -177,5 +177,5 @@ module _ (d : Disc) (matching : Matching) (v : Mount) (work : ℕ) where
     where
       by : (o : Outcome (Option Entry)) (n : ℕ) → (ran d (entering matching v work icb c.bytes)).outcome ≡ o → (onward o n (on c [])).outcome ≡ answered (reached i) → TakesIcb d matching v work icb c.bytes i
       by (refused why) n q k = never k
-      by (answered none) n q k = absurd (let z = rw ran-done at k in let w : ◌≡◌ {A = ℕ} 0 1 = cc in omega arith)
-      by (answered (some e)) n q k = record { taken = e; takes = enters-takes d matching v work icb c.bytes q; is = (let z = rw ran-done at k in cc) }
+      by (answered None) n q k = absurd (let z = rw ran-done at k in let w : ◌≡◌ {A = ℕ} 0 1 = cc in omega arith)
+      by (answered (Some e)) n q k = record { taken = e; takes = enters-takes d matching v work icb c.bytes q; is = (let z = rw ran-done at k in cc) }

@@ -1,7 +1,7 @@
 -- The component that failed stands at its place in the path. Assumes nothing.
+use Rattle.std.specs.Prelude.{Option, Some, None}
 use mathlib.Core.Bool.{Bool, true, false}
 use mathlib.Core.List.{List, [], ◌∷◌}
-use mathlib.Core.Option.{Option, none, some}
 use Prim.Native.Nat.{ℕ}
 use Rattle.disc.specs.declared.places.Mount.{Mount}
 use Rattle.listings.specs.declared.matchings.Matching.{Matching}
@@ -33,8 +33,8 @@ module _ (d : Disc) (matching : Matching) (v : Mount) (work : ℕ) (path : List 
 
       by : ((e : Entry) → InPath path (lost_of (ran d (seeking matching v work cs e.identifier.icb (is_directory e.identifier))).outcome))
           → (o : Outcome (Option Entry)) (n : ℕ) → InPath path (lost_of (onward o n (λ o. ran d (rest o))).outcome)
-      by ih (answered (some e)) n = ih e
-      by ih (answered none) n = rw (ran-done d (lost c)) h.0
+      by ih (answered (Some e)) n = ih e
+      by ih (answered None) n = rw (ran-done d (lost c)) h.0
       by ih (refused r) n = part_none path
 
 -- the part of the path at the place is the component

@@ -1,9 +1,9 @@
 -- What is proved of directories and paths: what the call for the component that failed asks for, that the first entry of a name wins, and what
 -- the ends of a path come to; that a directory's bytes are bytes. Assumes nothing.
+use Rattle.std.specs.Prelude.{Some}
 use mathlib.Core.Path.{◌≡◌, ap, sym, ◌∙◌}
 use mathlib.Core.Bool.{Bool, true, false}
 use mathlib.Core.List.{List, [], ◌∷◌, ◌++◌}
-use mathlib.Core.Option.{some}
 use Prim.Native.Nat.{ℕ, ◌<◌}
 use lib.ListN.{length}
 use lib.Dec.{leb}
@@ -52,7 +52,7 @@ module _ (d : Disc) (matching : Matching) (v : Mount) (work : ℕ) where
   pub enters-first : takes_first matching ≡ true → (icb : LongAd) (component : List ℕ) {b : List ℕ} → (ran d (directory_bytes v work icb)).outcome ≡ answered b
       → (before : List Entry) (e : Entry) (rest : List Entry) → entries (is_checked v) b ≡ answered (before ++ e ∷ rest)
       → NoneAnswers (fold_in matching) component before → answers_to (fold_in matching) component e ≡ true
-      → ran d (entering matching v work icb component) ≡ record { outcome = answered (some e); count = (ran d (directory_bytes v work icb)).count }
+      → ran d (entering matching v work icb component) ≡ record { outcome = answered (Some e); count = (ran d (directory_bytes v work icb)).count }
   unfolding entering find_in
   enters-first f icb component {b} r before e rest k n h =
       ran-known d (directory_bytes v work icb) (find_in (is_checked v) matching component)

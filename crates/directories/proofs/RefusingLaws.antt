@@ -1,8 +1,8 @@
 -- Which refusals a directory and a walk along a path say by themselves: those of the read, 6, 9 where a component is to match one entry alone, and 3 of one that isn't there. Assumes nothing.
+use Rattle.std.specs.Prelude.{Option, Some, None}
 use mathlib.Core.Path.{◌≡◌}
 use mathlib.Core.Bool.{Bool, true, false}
 use mathlib.Core.List.{List, [], ◌∷◌}
-use mathlib.Core.Option.{Option, none, some}
 use Prim.Native.Nat.{ℕ}
 use lib.ListN.{length}
 use lib.Dec.{leb}
@@ -55,8 +55,8 @@ module _ (P : Refusal → Type 0) (malformed : P Malformed) (unsupported : P Uns
     seeking-only (c ∷ cs) icb true = then-only (entering-only icb c.bytes) (λ o q. by o _ (λ e. seeking-only cs e.identifier.icb (is_directory e.identifier)))
       where
         by : (o : Option Entry) (f : Entry → Ask Sought) → ((e : Entry) → Refuses P Any (f e)) → Refuses P Any (or_lost c o f)
-        by none f h = done-only tt
-        by (some e) f h = h e
+        by None f h = done-only tt
+        by (Some e) f h = h e
 
     pub seek-only : (root : LongAd) (path : List ℕ) → Refuses P Any (seek_path matching m work root path)
     unfolding seek_path

@@ -1,8 +1,8 @@
 -- The walk along a path's components against its tree. Assumes nothing.
+use Rattle.std.specs.Prelude.{Option, Some, None}
 use mathlib.Core.Path.{◌≡◌, refl, sym, ap, ◌∙◌}
 use mathlib.Core.Bool.{Bool, true, false}
 use mathlib.Core.List.{List, [], ◌∷◌}
-use mathlib.Core.Option.{Option, none, some}
 use Prim.Native.Nat.{ℕ, ◌+◌, ◌-◌, ◌<◌, ◌≤◌, zero-le}
 use native.Mathlib.Nat.{zero-add, add-sub_cancel_left}
 use native.Mathlib.Omega.{arith}
@@ -162,9 +162,9 @@ module _ (d : Disc) (matching : Matching) (v : Mount) (work : ℕ) (path : List 
       by-outcome : (o : Outcome (Option Entry)) (m : ℕ) → leads_to d matching v work path p ≡ end_of (after p.count (onward o m (λ o. ran d (rest o))))
           → Steps d matching v work path p (beyond_of (named_of o) (reported (p.count + reported m)) from end)
       unfolding beyond_of ran outcome asked
-      by-outcome (answered (some e)) m s =
-          goes_on e.identifier.icb (is_directory e.identifier) _ (omega arith) (end-reported (ran d (rest (some e))) p.count m ∙ sym s)
-      by-outcome (answered none) m s =
+      by-outcome (answered (Some e)) m s =
+          goes_on e.identifier.icb (is_directory e.identifier) _ (omega arith) (end-reported (ran d (rest (Some e))) p.count m ∙ sym s)
+      by-outcome (answered None) m s =
           ends-here from end (number NotBluray) no_long _ (omega (arith, further)) end-within (omega arith) (both (ap (not_found (number NotBluray)) (omega arith)) refl ∙ sym s)
       by-outcome (refused r) m s =
           simp (ne_eqb _ _ (refusal-numbered r))

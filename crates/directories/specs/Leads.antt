@@ -1,6 +1,5 @@
 -- The way along a path: which directories a lookup enters, and what it meets there.
-use Rattle.std.specs.Prelude.{true, false, Bool, [], List, ◌∷◌, ◌++◌, ◌≡◌, ℕ, ◌<◌, length}
-use Rattle.std.proofs.Math.Option.{some, none, Option}
+use Rattle.std.specs.Prelude.{true, false, Bool, [], List, ◌∷◌, ◌++◌, ◌≡◌, ℕ, ◌<◌, length, Option, Some, None}
 use Rattle.disc.specs.Ask.{Disc, Outcome}
 use Rattle.disc.specs.Ask.Outcome.{answered, refused}
 use Rattle.disc.specs.Places.{is_checked}
@@ -26,7 +25,7 @@ ApartOn d v work [] icb directory = Unit {0}
 ApartOn d v work (c ∷ cs) icb false = Unit {0}
 ApartOn d v work (c ∷ cs) icb true =
     (b : List ℕ) (es : List Entry) → (ran d (directory_bytes v work icb)).outcome ≡ answered b → entries (is_checked v) b ≡ answered es
-    → Apart es × ((e : Entry) → first_named lower c.bytes es ≡ some e → ApartOn d v work cs e.identifier.icb (is_directory e.identifier))
+    → Apart es × ((e : Entry) → first_named lower c.bytes es ≡ Some e → ApartOn d v work cs e.identifier.icb (is_directory e.identifier))
 
 -- the walk ended at a component that wasn't found, which is refused by 3
 pub record IsLost (r : Ran Sought) : Type 0 where
@@ -40,7 +39,7 @@ pub record Takes (d : Disc) (matching : Matching) (v : Mount) (work : ℕ) (icb 
   pub read : (ran d (directory_bytes v work icb)).outcome ≡ answered bytes
   pub all : List Entry
   pub parsed : entries (is_checked v) bytes ≡ answered all
-  pub takes : chosen matching (all_named (fold_in matching) name all) ≡ answered (some e)
+  pub takes : chosen matching (all_named (fold_in matching) name all) ≡ answered (Some e)
 
 -- the entry taken is a directory, and `next` holds for its ICB
 pub record Enters (d : Disc) (matching : Matching) (v : Mount) (work : ℕ) (icb : LongAd) (name : List ℕ) (next : LongAd → Type 0) : Type 0 where
@@ -87,8 +86,8 @@ pub record Led (d : Disc) (matching : Matching) (v : Mount) (work : ℕ) (cs : L
 
 -- where a walk ends whose last component has this entry, or none
 abbrev pub last_of : Component → Option Entry → Sought
-last_of c none = lost c
-last_of c (some e) = reached e.identifier.icb
+last_of c None = lost c
+last_of c (Some e) = reached e.identifier.icb
 
 abbrev pub last_in : Component → Outcome (Option Entry) → Outcome Sought
 last_in c (answered o) = answered (last_of c o)

@@ -1,6 +1,5 @@
 -- A path looked up by a choice of matching, the component that failed, and a file read by its path: RULES 8.13 to 8.25.
-use Rattle.std.specs.Prelude.{ℕ, Bool, true, false, List, [], ◌∷◌, length}
-use Rattle.std.proofs.Math.Option.{Option, none, some}
+use Rattle.std.specs.Prelude.{ℕ, Bool, true, false, List, [], ◌∷◌, length, Option, Some, None}
 use Rattle.disc.specs.Replies.{answer_of}
 use Rattle.disc.specs.declared.places.Mount.{Mount}
 use Rattle.disc.specs.Places.{is_checked}
@@ -35,8 +34,8 @@ pub data Sought : Type 0 where
   lost : Component → Sought
 
 abbrev pub or_lost : {A : Type 0} → Component → Option A → (A → Ask Sought) → Ask Sought
-or_lost c none f = done (lost c)
-or_lost c (some a) f = f a
+or_lost c None f = done (lost c)
+or_lost c (Some a) f = f a
 
 -- the components in turn; one under a file is lost before any further sector
 unfoldable pub seeking : Matching → Mount → ℕ → List Component → LongAd → Bool → Ask Sought

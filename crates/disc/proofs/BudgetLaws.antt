@@ -3,7 +3,7 @@ use mathlib.Core.Path.{◌≡◌, refl, ap, sym, ◌∙◌, fun_ext}
 use mathlib.Core.Bool.{Bool, true, false}
 use mathlib.Core.List.{List, [], ◌∷◌}
 use mathlib.Core.Logic.{⊎_elim}
-use Prim.Native.Nat.{ℕ, zero, suc, ◌+◌, ◌-◌, ◌≤◌, ◌<◌, ◌^◌}
+use Prim.Native.Nat.{ℕ, zero, suc, ◌+◌, ◌-◌, ◌≤◌, ◌<◌}
 use native.Mathlib.Omega.{arith}
 use lib.ListN.{length, take}
 use lib.Seq.{take_all, length-take-le}
@@ -191,15 +191,6 @@ budgeted-guards {A} {right} most g =
 -- ---- what is left
 
 module _ (most count : ℕ) where
-  pub left-all : most ≡ unlimited → most ≡ left_of most count
-  left-all e = rw (le-ltb most unlimited (omega arith))
-
-  pub left-none : (most ≡ unlimited → ⊥) → most < 2 ^ 64 → most < count → 0 ≡ left_of most count
-  left-none h k l = rw (lt-ltb most unlimited (omega (arith, h))) (omega arith)
-
-  pub left-some : (most ≡ unlimited → ⊥) → most < 2 ^ 64 → most - count ≡ left_of most count
-  left-some h k = rw (lt-ltb most unlimited (omega (arith, h)))
-
   pub left-most : left_of most count ≤ most
   left-most = ⊎_elim
       (λ (k : unlimited ≤ most). rw (le-ltb most unlimited k) (omega arith))

@@ -1,5 +1,6 @@
 -- Laws that hold of every tree, every image and every lent slice; crates above cite them.
 pub mod ByteLaws
+pub mod PassLaws
 pub mod PickLaws
 pub mod RefusalLaws
 pub mod PlaceLaws

@@ -1,10 +1,10 @@
 -- Which refusals a tree of questions can say by itself, and so which it can come to. One that never says `Io` by itself comes to it exactly when a
 -- sector of its list isn't wholly inside the image. Assumes nothing.
+use Rattle.std.specs.Prelude.{Option, Some, None}
 use mathlib.Core.Path.{◌≡◌, refl}
 use mathlib.Core.Bool.{Bool, true, false, ◌||◌}
 use mathlib.Core.List.{List, [], ◌∷◌, ◌++◌}
 use mathlib.Core.Logic.{⊎_elim}
-use mathlib.Core.Option.{Option, none, some}
 use Prim.Native.Nat.{ℕ, ◌+◌, ◌*◌, ◌≤◌, ◌<◌}
 use native.Mathlib.Omega.{arith}
 use lib.ListN.{length}
@@ -72,8 +72,8 @@ module _ {A : Type 0} {P : Refusal → Type 0} {Q : A → Type 0} where
 
 -- a block that may stand nowhere on the volume, for any P that has 4
 pub standing-only : {A : Type 0} (P : Refusal → Type 0) → P Unsupported → {Q : A → Type 0} (o : Option ℕ) {f : ℕ → Ask A} → ((s : ℕ) → Refuses P Q (f s)) → Refuses P Q (standing o f)
-standing-only P unsupported none h = refuse-only unsupported
-standing-only P unsupported (some s) h = h s
+standing-only P unsupported None h = refuse-only unsupported
+standing-only P unsupported (Some s) h = h s
 
 only-missing : {A : Type 0} (Q : A → Type 0) (image : List ℕ) (m : Ask A) → Only ButIo Q m → is_io (outcome (disc image) m) ≡ any_missing image (asked (disc image) m)
 unfolding Only outcome asked any_missing

@@ -1,5 +1,5 @@
 -- What a call that writes into lent memory reports and leaves there. RULES 1.5 to 1.7, 10.3 and 10.4.
-use Rattle.std.specs.Prelude.{ℕ, ◌≡◌, List, ◌++◌, length, drop, leb}
+use Rattle.std.specs.Prelude.{ℕ, ◌≡◌, List, ◌++◌, length, drop, leb, Result, Ok, Err}
 use Rattle.disc.specs.Choice.{pick}
 use Rattle.disc.specs.Refusals.{number}
 use Rattle.disc.specs.Counts.{reported}
@@ -14,6 +14,11 @@ pub record Answer (A : Type 0) : Type 0 where
   pub number : ℕ
   pub value : A
 
+-- an outcome as the code returns it
+abbrev pub returned : {A : Type 0} → Outcome A → Result A Refusal
+returned (answered a) = Ok a
+returned (refused r) = Err r
+
 -- the answer number of an outcome
 abbrev pub answer_of : {A : Type 0} → Outcome A → ℕ
 answer_of (answered a) = 0
@@ -23,6 +28,11 @@ answer_of (refused r) = number r
 abbrev pub answer_in : {A : Type 0} → A → Outcome A → Answer A
 answer_in nothing (answered a) = record { number = 0; value = a }
 answer_in nothing (refused r) = record { number = number r; value = nothing }
+
+-- the same of what the code returned
+abbrev pub answer_from : {A : Type 0} → A → Result A Refusal → Answer A
+answer_from nothing (Ok a) = record { number = 0; value = a }
+answer_from nothing (Err r) = record { number = number r; value = nothing }
 
 -- the reply where there is room for `room` elements, bytes or slots: more are refused by `full`, after every other refusal
 abbrev pub reply_by : {A : Type 0} → Refusal → ℕ → ℕ → Outcome (List A) → Reply

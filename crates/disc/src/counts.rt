@@ -10,10 +10,7 @@ pub const UNLIMITED: u64 = 0xffff_ffff_ffff_ffff;
 pub fn add_counts(a: u64, b: u64) -> u64
     ensures { result ≡ reported (a + b) }
 {
-    if 0xffff_ffff_ffff_ffff - a < b {
-        return 0xffff_ffff_ffff_ffff;
-    }
-    a + b
+    a.saturating_add(b)
 }
 
 // What is left of a budget of `most` sectors after `count` of them. No budget stays no budget.
@@ -23,15 +20,12 @@ pub fn left_of(most: u64, count: u64) -> u64
     if most == UNLIMITED {
         return most;
     }
-    if most < count {
-        return 0;
-    }
-    most - count
+    most.saturating_sub(count)
 }
 
 // The lesser of two numbers.
 pub fn lesser(a: u64, b: u64) -> u64
     ensures { result ≡ min a b }
 {
-    if a < b { a } else { b }
+    a.min(b)
 }

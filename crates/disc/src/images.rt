@@ -9,18 +9,14 @@ use crate::places::Sector;
 pub fn sectors_for(n: u32) -> u64
     ensures { result ≡ sectors_for n }
 {
-    (n as u64 + 2047) / 2048
+    (n as u64).div_ceil(2048)
 }
 
 // How many sectors the image has from `first` on.
 pub fn held_from(image: &[u8], first: Sector) -> u64
     ensures { result ≡ held_from image.now first.0 }
 {
-    let held = (image.len() / 2048) as u64;
-    if held < first.0 {
-        return 0;
-    }
-    held - first.0
+    ((image.len() / 2048) as u64).saturating_sub(first.0)
 }
 
 // A sector's bytes, in place in the image; empty if the sector isn't there.

@@ -1,7 +1,7 @@
 // Two counters that stay apart: a block is counted from the partition's start, a sector from the disc's. Only
 // `Mount`, which says how a volume is read, turns a block into a sector.
 ghost use Rattle.std.specs.Prelude.{◌≡◌};
-ghost use Rattle.disc.specs.Places.{sector_of, is_mapped, mapped_start, start_for, icb_start, crossing, start_by, icb_placed, at_entry, is_checked, StandsIn, BlockStands};
+ghost use Rattle.disc.specs.Places.{sector_of, is_mapped, mapped_start, start_for, icb_start, crossing, icb_placed, at_entry, is_checked, StandsIn, BlockStands};
 
 #[derive(Clone, Copy)]
 pub struct Block(pub u32);
@@ -9,13 +9,6 @@ pub struct Block(pub u32);
 // The sum of two 32-bit numbers can pass 2^32, so a sector's number has 64 bits.
 #[derive(Clone, Copy)]
 pub struct Sector(pub u64);
-
-// The partition that a descriptor names: a short_ad names none.
-#[derive(Clone, Copy)]
-pub enum PartitionRef {
-    Unnamed,
-    Named(u16),
-}
 
 // How a volume is read: where its partition starts, the partition's number, whether descriptors are checked, and the
 // partition maps that resolve references, if any.
@@ -37,20 +30,6 @@ pub struct Mount {
     pub starts: [u32; 4],
 }
 
-// Where the partition that a reference names starts, if it is one of this volume.
-#[derive(Clone, Copy)]
-pub(crate) enum Start {
-    In(u32),
-    Foreign,
-}
-
-// Where a block stands: in a sector, or nowhere on this volume.
-#[derive(Clone, Copy)]
-pub enum Placed {
-    At(Sector),
-    Nowhere,
-}
-
 // The only place where a block becomes a sector (RULES 9.3).
 fn sector_of(start: u32, block: Block) -> Sector
     ensures { result.0 ≡ sector_of start block.0 }
@@ -59,13 +38,10 @@ fn sector_of(start: u32, block: Block) -> Sector
 }
 
 // The sector of a block in the partition that starts at `start`.
-fn crossed(start: Start, block: Block) -> Placed
-    ensures { StandsIn (crossing block.0 (start_by start)) result }
+fn crossed(start: Option<u32>, block: Block) -> Option<Sector>
+    ensures { StandsIn (crossing block.0 start) result }
 {
-    match start {
-        Start::In(s) => Placed::At(sector_of(s, block)),
-        Start::Foreign => Placed::Nowhere,
-    }
+    Some(sector_of(start?, block))
 }
 
 impl Mount {
@@ -77,57 +53,57 @@ impl Mount {
     }
 
     // The start of the partition of map `reference`, if there is such a map.
-    fn mapped(self, reference: u16) -> Start
-        ensures { start_by result ≡ mapped_start self reference }
+    fn mapped(self, reference: u16) -> Option<u32>
+        ensures { result ≡ mapped_start self reference }
     {
         let i = reference as usize;
         if self.maps as usize <= i {
-            return Start::Foreign;
+            return None;
         }
         if 4 <= i {
-            return Start::Foreign;
+            return None;
         }
         let starts = self.starts;
-        Start::In(starts[i])
+        Some(starts[i])
     }
 
     // The start of the partition that a descriptor's reference names: through the maps, or else only by the volume's
     // own number.
-    fn start_for(self, reference: u16) -> Start
-        ensures { start_by result ≡ start_for self reference }
+    fn start_for(self, reference: u16) -> Option<u32>
+        ensures { result ≡ start_for self reference }
     {
         if self.is_mapped() {
             return self.mapped(reference);
         }
         if reference != self.partition {
-            return Start::Foreign;
+            return None;
         }
-        Start::In(self.start)
+        Some(self.start)
     }
 
     // The start of the partition that an ICB's reference names. Without maps the reference isn't looked at.
-    fn icb_start(self, reference: u16) -> Start
-        ensures { start_by result ≡ icb_start self reference }
+    fn icb_start(self, reference: u16) -> Option<u32>
+        ensures { result ≡ icb_start self reference }
     {
         if self.is_mapped() {
             return self.mapped(reference);
         }
-        Start::In(self.start)
+        Some(self.start)
     }
 
     // The sector of a block under a descriptor's reference. Without a reference, the block is in its file entry's
     // partition.
-    pub fn placed(self, reference: PartitionRef, block: Block) -> Placed
+    pub fn placed(self, reference: Option<u16>, block: Block) -> Option<Sector>
         ensures { BlockStands self reference block.0 result }
     {
         match reference {
-            PartitionRef::Unnamed => Placed::At(sector_of(self.start, block)),
-            PartitionRef::Named(p) => crossed(self.start_for(p), block),
+            None => Some(sector_of(self.start, block)),
+            Some(p) => crossed(self.start_for(p), block),
         }
     }
 
     // The sector of the block that an ICB names.
-    pub fn icb_placed(self, reference: u16, block: Block) -> Placed
+    pub fn icb_placed(self, reference: u16, block: Block) -> Option<Sector>
         ensures { StandsIn (icb_placed self reference block.0) result }
     {
         crossed(self.icb_start(reference), block)
@@ -138,8 +114,8 @@ impl Mount {
         ensures { result ≡ at_entry self reference }
     {
         match self.icb_start(reference) {
-            Start::Foreign => self,
-            Start::In(start) => {
+            None => self,
+            Some(start) => {
                 let mut m = self;
                 m.start = start;
                 m

@@ -38,6 +38,13 @@ pub enum Refusal {
     OverBudget,
 }
 
+// A refusal, and how many sectors had been asked for by then.
+#[derive(Clone, Copy)]
+pub struct CountedRefusal {
+    pub why: Refusal,
+    pub count: u64,
+}
+
 impl Refusal {
     // The answer number. No refusal has number 0, which is "done".
     pub fn number(self) -> u64

@@ -11,22 +11,22 @@
 // tools/drive_model.py computes what is expected, from the images and the rules.
 #![tactic(auto)]
 
-ghost use Rattle.std.specs.Prelude.{◌≡◌, ◌<◌, ◌≤◌, length};
+ghost use Rattle.std.specs.Prelude.{◌<◌, ◌≤◌, length, IfOk};
 
-use disc::moves::least;
 use disc::places::Mount;
 use disc::refusals::Refusal;
 use disc::replies::Reply;
 use drives::openings::Opening;
 use drives::readings::Reading;
 use files::reads::read_file;
-use programs::lent::{fill, front, part, sum, two_mebibytes};
-use programs::words::{end_line, say, say_answer, say_named};
+use programs::lent::{LENT, fill, front, part, sum, two_mebibytes};
+use programs::read_full;
 use records::allocations::{LongAd, long_at, no_long};
 use records::bytes::{le16, le32};
 use sparse::expand;
-use std::fs;
+use std::alloc::{AllocError, Global};
 use std::os::fd::AsRawFd;
+use std::{fs, io};
 use volumes::openings::{How, Opened, VolumeRecord, open_volume};
 
 // More than the sectors of any list here.
@@ -41,6 +41,12 @@ const SLOTS: usize = 1024;
 // Each number of the row, as lent.
 const FREE: u32 = 4294901760;
 
+// The most bytes of output that are lent.
+const ROOM: usize = 65536;
+
+// The most bytes of the file of images that are looked at.
+const IMAGES: usize = 262144;
+
 // A sum, continued by a number.
 fn mixed(sum: u64, n: u64) -> u64 {
     (sum % 4294967296 * 31 + n % 4294967296) % 4294967296
@@ -52,13 +58,11 @@ fn mixed(sum: u64, n: u64) -> u64 {
 fn wrong_size(i: usize) -> usize
     ensures { result ≤ 2049 }
 {
-    if i % 3 == 0 {
-        return 0;
+    match i % 3 {
+        0 => 0,
+        1 => 2047,
+        _ => 2049,
     }
-    if i % 3 == 1 {
-        return 2047;
-    }
-    2049
 }
 
 // What is lent as the i-th sector that is wanted: nothing if the image doesn't have it, a wrong number of bytes if it
@@ -68,16 +72,14 @@ fn lent(image: &[u8], sector: u64, i: usize, denied: usize) -> &[u8] {
         return part(image, 0, 0);
     }
     let at = sector as usize * 2048;
-    if i == denied {
-        return part(image, at, at + wrong_size(i));
-    }
-    part(image, at, at + 2048)
+    let size = if i == denied { wrong_size(i) } else { 2048 };
+    part(image, at, at + size)
 }
 
 // ---- opening
 
 // What an opening says: the volume by its partition and by sums of its root and its label.
-#[derive(Clone, Copy)]
+#[derive(Clone, Copy, PartialEq, Eq)]
 struct OpenSaid {
     answer: u64,
     count: u64,
@@ -90,25 +92,15 @@ struct OpenSaid {
 fn of_opened(o: Opened) -> OpenSaid {
     let v = o.volume;
     let mount = v.mount;
-    let root = v.root.encode();
     let label = v.label;
     OpenSaid {
         answer: o.answer,
         count: o.count,
-        start: mount.start as u64,
-        partition: mount.partition as u64,
-        root: sum(&root),
+        start: u64::from(mount.start),
+        partition: u64::from(mount.partition),
+        root: sum(&v.root.encode()),
         label: sum(&label),
     }
-}
-
-fn is_same_volume(a: OpenSaid, b: OpenSaid) -> bool {
-    (a.answer == b.answer)
-        & (a.count == b.count)
-        & (a.start == b.start)
-        & (a.partition == b.partition)
-        & (a.root == b.root)
-        & (a.label == b.label)
 }
 
 // How an opening ended, and the sum of what it wanted.
@@ -119,76 +111,72 @@ struct OpenWalk {
 }
 
 fn walk_opening(image: &[u8], denied: usize) -> OpenWalk {
-    let mut o = Opening::start();
+    let mut opening = Opening::start();
     let mut list = 0;
-    let mut i = 0;
-    while i < MOST {
-        if !o.is_wanting() {
-            return OpenWalk { opening: o, list };
+    for i in 0..MOST {
+        if !opening.is_wanting() {
+            break;
         }
-        let s = o.wants();
+        let s = opening.wants();
         list = mixed(list, s);
-        o = o.step(lent(image, s, i, denied));
-        i += 1;
+        opening = opening.step(lent(image, s, i, denied));
     }
-    OpenWalk { opening: o, list }
+    OpenWalk { opening, list }
 }
 
 // Whether the opening has ended, and one more step changes nothing.
 fn is_still_open(image: &[u8], o: Opening) -> bool {
     let x = o.step(part(image, 0, 2048));
-    let before = of_opened(o.opened);
-    let behind = of_opened(x.opened);
-    !o.is_wanting() & (o.wants() == 0) & (x.phase == o.phase) & is_same_volume(before, behind)
+    let is_same = of_opened(x.opened) == of_opened(o.opened);
+    !o.is_wanting() & (o.wants() == 0) & (x.phase == o.phase) & is_same
 }
 
-fn say_open_said(word: &[u8], s: OpenSaid) {
-    say_answer(word, s.answer, s.count);
-    say_named(b" start ", s.start);
-    say_named(b" partition ", s.partition);
-    say_named(b" root ", s.root);
-    say_named(b" label ", s.label);
+fn say_open_said(rt: &impl Print, word: &str, s: OpenSaid) -> io::Result<()> {
+    print!(rt;
+        "{word} {} count {} start {} partition {} root {} label {}",
+        s.answer, s.count, s.start, s.partition, s.root, s.label
+    )
 }
 
 // The sum of an opening whose i-th sector is denied.
 fn denied_opening(image: &[u8], i: usize) -> u64 {
     let w = walk_opening(image, i);
     let s = of_opened(w.opening.opened);
-    let a = mixed(mixed(mixed(w.list, s.answer), s.count), s.start);
-    let b = mixed(mixed(mixed(a, s.partition), s.root), s.label);
-    mixed(b, is_still_open(image, w.opening) as u64)
+    let still = is_still_open(image, w.opening);
+    [
+        s.answer,
+        s.count,
+        s.start,
+        s.partition,
+        s.root,
+        s.label,
+        u64::from(still),
+    ]
+    .into_iter()
+    .fold(w.list, mixed)
 }
 
 // Denies each sector of a list of n in turn.
-fn say_denied_openings(image: &[u8], n: usize) {
-    let mut total = 0;
-    let mut i = 0;
-    while i < n {
-        total = mixed(total, denied_opening(image, i));
-        i += 1;
-    }
-    say_named(b"denied ", total);
-    end_line();
+fn say_denied_openings(rt: &impl Print, image: &[u8], n: usize) -> io::Result<()> {
+    let total = (0..n).map(|i| denied_opening(image, i)).fold(0, mixed);
+    println!(rt; "denied {total}")
 }
 
-fn say_opening(image: &[u8]) {
+fn say_opening(rt: &impl Print, image: &[u8]) -> io::Result<()> {
     let call = of_opened(open_volume(image, How::usual()));
-    say_open_said(b"call ", call);
-    end_line();
+    say_open_said(rt, "call", call)?;
+    println!(rt)?;
     let w = walk_opening(image, MOST);
     let s = of_opened(w.opening.opened);
-    say_open_said(b"fed ", s);
-    say_named(b" list ", w.list);
-    say_flag(is_still_open(image, w.opening), b" still");
-    say_flag(is_same_volume(s, call), b" same");
-    end_line();
-    say_denied_openings(image, least(s.count as usize, MOST));
+    say_open_said(rt, "fed", s)?;
+    let still = word_if(is_still_open(image, w.opening), " still");
+    let same = word_if(s == call, " same");
+    println!(rt; " list {}{still}{same}", w.list)?;
+    say_denied_openings(rt, image, MOST.min(s.count as usize))
 }
 
-fn say_flag(is_so: bool, word: &[u8]) {
-    if is_so {
-        say(word);
-    }
+fn word_if(is_so: bool, word: &str) -> &str {
+    if is_so { word } else { "" }
 }
 
 // ---- reading
@@ -202,7 +190,7 @@ struct Question {
 }
 
 // What a read says, and what it leaves in the memory that is lent.
-#[derive(Clone, Copy)]
+#[derive(Clone, Copy, PartialEq, Eq)]
 struct Said {
     answer: u64,
     count: u64,
@@ -212,33 +200,6 @@ struct Said {
     zero: bool,
     kept: bool,
     still: bool,
-}
-
-fn is_zero_slot(w: [u32; 4]) -> bool {
-    (w[0] == 0) & (w[1] == 0) & (w[2] == 0) & (w[3] == 0)
-}
-
-fn is_zero_row(row: &[[u32; 4]]) -> bool {
-    let mut i = 0;
-    while i < row.len() {
-        if !is_zero_slot(row[i]) {
-            return false;
-        }
-        i += 1;
-    }
-    true
-}
-
-// Whether the output from `from` on is as it came.
-fn is_kept(out: &[u8], from: usize) -> bool {
-    let mut i = from;
-    while i < out.len() {
-        if out[i] != 0xa5 {
-            return false;
-        }
-        i += 1;
-    }
-    true
 }
 
 // How a read ended, and the sum of what it wanted.
@@ -255,19 +216,17 @@ fn walk_reading(
     row: &mut [[u32; 4]],
     out: &mut [u8],
 ) -> ReadWalk {
-    let mut r = start;
+    let mut reading = start;
     let mut list = 0;
-    let mut i = 0;
-    while i < MOST {
-        if !r.is_wanting() {
-            return ReadWalk { reading: r, list };
+    for i in 0..MOST {
+        if !reading.is_wanting() {
+            break;
         }
-        let s = r.wants();
+        let s = reading.wants();
         list = mixed(list, s);
-        r = r.step(lent(image, s, i, denied), row, out);
-        i += 1;
+        reading = reading.step(lent(image, s, i, denied), row, out);
     }
-    ReadWalk { reading: r, list }
+    ReadWalk { reading, list }
 }
 
 fn is_same_place(r: Reading, x: Reading) -> bool {
@@ -312,33 +271,26 @@ fn said_of(e: Ended, row: &[[u32; 4]], out: &[u8]) -> Said {
         length: r.length,
         sum: sum(front(out, r.length)),
         list: e.list,
-        zero: is_zero_row(row),
-        kept: is_kept(out, r.length),
+        zero: row.iter().all(|slot| *slot == [0; 4]),
+        kept: out.iter().skip(r.length).all(|b| *b == LENT),
         still: !r.is_wanting() & (r.wants() == 0) & is_same_place(r, more),
     }
 }
 
-// A read with the memory that it is lent.
-fn read_in(image: &[u8], q: Question, denied: usize, row: &mut [[u32; 4]], out: &mut [u8]) -> Said {
-    fill(out);
-    let e = read_whole(image, q, denied, row, out);
-    said_of(e, row, out)
-}
-
 // A read with this many slots and this much room.
 fn read_within(
+    alloc: Global,
     image: &[u8],
     q: Question,
     denied: usize,
     slots: usize,
     room: usize,
-    out: &mut [u8],
-) -> Said {
-    let free = [FREE; 4];
-    let mut row = [free; SLOTS];
-    let n = least(slots, SLOTS);
-    let m = least(room, out.len());
-    read_in(image, q, denied, &mut row[..n], &mut out[..m])
+) -> Result<Said, AllocError> {
+    let mut row = vec![in alloc; [FREE; 4]; SLOTS.min(slots)]?;
+    let mut out = vec![in alloc; 0; ROOM.min(room)]?;
+    fill(&mut out);
+    let e = read_whole(image, q, denied, &mut row, &mut out);
+    Ok(said_of(e, &row, &out))
 }
 
 // ---- compared with the call
@@ -350,160 +302,165 @@ fn is_as_called(s: Said, call: Reply, total: u64) -> bool {
         & (s.sum == total)
 }
 
-fn is_same(a: Said, b: Said) -> bool {
-    (a.answer == b.answer)
-        & (a.count == b.count)
-        & (a.length == b.length)
-        & (a.sum == b.sum)
-        & (a.list == b.list)
-        & (a.zero == b.zero)
-        & (a.kept == b.kept)
-        & (a.still == b.still)
-}
-
-fn say_said(slots: usize, room: usize, s: Said) {
-    say_named(b"slots ", slots as u64);
-    say_named(b" room ", room as u64);
-    say_answer(b" fed ", s.answer, s.count);
-    say_named(b" length ", s.length as u64);
-    say_named(b" sum ", s.sum);
-    say_named(b" list ", s.list);
-    say_flag(s.zero, b" zero");
-    say_flag(s.kept, b" kept");
-    say_flag(s.still, b" still");
+fn say_said(rt: &impl Print, slots: usize, room: usize, s: Said) -> io::Result<()> {
+    let zero = word_if(s.zero, " zero");
+    let kept = word_if(s.kept, " kept");
+    let still = word_if(s.still, " still");
+    print!(rt;
+        "slots {slots} room {room} fed {} count {}",
+        s.answer, s.count
+    )?;
+    print!(rt;
+        " length {} sum {} list {}{zero}{kept}{still}",
+        s.length, s.sum, s.list
+    )
 }
 
 // A read with this many slots and this much room, and a line for it if it says something other than the one before.
 // Returns what it says.
 fn turn(
+    rt: &(impl Print + AllocGlobal),
     image: &[u8],
     q: Question,
     slots: usize,
     room: usize,
     before: Said,
-    out: &mut [u8],
-) -> Said {
-    let s = read_within(image, q, MOST, slots, room, out);
-    if !is_same(s, before) {
-        say_said(slots, room, s);
-        end_line();
+) -> io::Result<Said> {
+    let s = read_within(rt.alloc(), image, q, MOST, slots, room)?;
+    if s != before {
+        say_said(rt, slots, room, s)?;
+        println!(rt)?;
     }
-    s
-}
-
-fn below(n: usize) -> usize {
-    if n == 0 {
-        return 0;
-    }
-    n - 1
+    Ok(s)
 }
 
 // The sum of a read whose i-th sector is denied.
-fn denied_reading(image: &[u8], q: Question, i: usize, out: &mut [u8]) -> u64 {
-    let s = read_within(image, q, i, SLOTS, q.room, out);
-    let a = mixed(mixed(mixed(s.list, s.answer), s.count), s.length as u64);
-    let b = mixed(mixed(a, s.sum), s.zero as u64);
-    mixed(mixed(b, s.kept as u64), s.still as u64)
+fn denied_reading(alloc: Global, image: &[u8], q: Question, i: usize) -> Result<u64, AllocError> {
+    let s = read_within(alloc, image, q, i, SLOTS, q.room)?;
+    Ok(
+        [
+            s.answer,
+            s.count,
+            s.length as u64,
+            s.sum,
+            u64::from(s.zero),
+            u64::from(s.kept),
+            u64::from(s.still),
+        ]
+        .into_iter()
+        .fold(s.list, mixed),
+    )
 }
 
 // Denies each sector of the list in turn.
-fn say_denied_readings(image: &[u8], q: Question, n: usize, out: &mut [u8])
-    requires { n ≤ 2000 }
-{
+fn say_denied_readings(
+    rt: &(impl Print + AllocGlobal),
+    image: &[u8],
+    q: Question,
+    n: usize,
+) -> io::Result<()> {
     let mut total = 0;
-    let mut i = 0;
-    while i < n {
-        total = mixed(total, denied_reading(image, q, i, out));
-        i += 1;
+    for i in 0..n {
+        total = mixed(total, denied_reading(rt.alloc(), image, q, i)?);
     }
-    say_named(b"denied ", total);
-    end_line();
+    println!(rt; "denied {total}")
 }
 
 // The fewest slots with which the read says the same as with all.
-fn slots_needed(image: &[u8], q: Question, enough: Said, out: &mut [u8]) -> usize {
-    let mut n = 0;
-    while n < SLOTS {
-        if is_same(read_within(image, q, MOST, n, q.room, out), enough) {
-            return n;
+fn slots_needed(
+    alloc: Global,
+    image: &[u8],
+    q: Question,
+    enough: Said,
+) -> Result<usize, AllocError> {
+    for n in 0..SLOTS {
+        if read_within(alloc, image, q, MOST, n, q.room)? == enough {
+            return Ok(n);
         }
-        n += 1;
     }
-    n
+    Ok(SLOTS)
 }
 
 // The read with as many slots and bytes as it needs, with a slot fewer, and with none. Returns what the last one
 // says.
-fn say_fewer_slots(image: &[u8], q: Question, s: Said, needed: usize, out: &mut [u8]) -> Said {
-    let exact = turn(image, q, needed, s.length, s, out);
-    let short = turn(image, q, below(needed), q.room, exact, out);
-    turn(image, q, 0, q.room, short, out)
+fn say_fewer_slots(
+    rt: &(impl Print + AllocGlobal),
+    image: &[u8],
+    q: Question,
+    s: Said,
+    needed: usize,
+) -> io::Result<Said> {
+    let exact = turn(rt, image, q, needed, s.length, s)?;
+    let short = turn(rt, image, q, needed.saturating_sub(1), q.room, exact)?;
+    turn(rt, image, q, 0, q.room, short)
 }
 
 // The read with a byte less room, and with none.
-fn say_less_room(image: &[u8], q: Question, s: Said, before: Said, out: &mut [u8]) {
-    let short = turn(image, q, SLOTS, below(s.length), before, out);
-    turn(image, q, SLOTS, 0, short, out);
+fn say_less_room(
+    rt: &(impl Print + AllocGlobal),
+    image: &[u8],
+    q: Question,
+    s: Said,
+    before: Said,
+) -> io::Result<()> {
+    let short = turn(rt, image, q, SLOTS, s.length.saturating_sub(1), before)?;
+    turn(rt, image, q, SLOTS, 0, short)?;
+    Ok(())
 }
 
 // The other reads, after the one with slots and room enough.
-fn say_turns(image: &[u8], q: Question, s: Said, out: &mut [u8]) {
-    let needed = slots_needed(image, q, s, out);
-    say_named(b"needs ", needed as u64);
-    end_line();
-    let before = say_fewer_slots(image, q, s, needed, out);
-    say_less_room(image, q, s, before, out);
-    say_denied_readings(image, q, least(s.count as usize, MOST), out);
+fn say_turns(
+    rt: &(impl Print + AllocGlobal),
+    image: &[u8],
+    q: Question,
+    s: Said,
+) -> io::Result<()> {
+    let needed = slots_needed(rt.alloc(), image, q, s)?;
+    println!(rt; "needs {needed}")?;
+    let before = say_fewer_slots(rt, image, q, s, needed)?;
+    say_less_room(rt, image, q, s, before)?;
+    say_denied_readings(rt, image, q, MOST.min(s.count as usize))
 }
 
-fn say_reading(image: &[u8], q: Question, call: Reply, total: u64, out: &mut [u8]) {
-    let s = read_within(image, q, MOST, SLOTS, q.room, out);
-    say_said(SLOTS, q.room, s);
-    say_flag(is_as_called(s, call, total), b" same");
-    end_line();
-    say_turns(image, q, s, out);
-}
-
-// The sum of the bytes that a call wrote.
-fn total_in(r: Reply, out: &[u8]) -> u64 {
-    sum(front(out, r.length as usize))
-}
-
-fn say_call(image: &[u8], q: Question, out: &mut [u8]) -> Reply {
-    let mount = q.volume.mount;
-    let icb = q.icb;
-    let room = least(q.room, out.len());
-    read_file(image, mount, icb, &mut out[..room], Refusal::NoRoom)
+fn say_reading(
+    rt: &(impl Print + AllocGlobal),
+    image: &[u8],
+    q: Question,
+    call: Reply,
+    total: u64,
+) -> io::Result<()> {
+    let s = read_within(rt.alloc(), image, q, MOST, SLOTS, q.room)?;
+    say_said(rt, SLOTS, q.room, s)?;
+    println!(rt; "{}", word_if(is_as_called(s, call, total), " same"))?;
+    say_turns(rt, image, q, s)
 }
 
 // ---- the queries
 
-fn say_query(q: Question) {
+fn say_query(rt: &impl Print, q: Question) -> io::Result<()> {
     let icb = q.icb;
+    let at = icb.location;
     let mount = q.volume.mount;
-    say_named(b"icb ", icb.length as u64);
-    say_named(b" ", icb.extent_type as u64);
-    say_named(b" ", icb.location.block as u64);
-    say_named(b" ", icb.location.partition_ref as u64);
-    say_named(b" start ", mount.start as u64);
-    say_named(b" partition ", mount.partition as u64);
-    say_named(b" checked ", mount.checked as u64);
-    say_named(b" maps ", mount.maps as u64);
-    say_named(b" room ", q.room as u64);
-    end_line();
+    print!(rt;
+        "icb {} {} {} {}",
+        icb.length, icb.extent_type, at.block, at.partition_ref
+    )?;
+    println!(rt;
+        " start {} partition {} checked {} maps {} room {}",
+        mount.start, mount.partition, mount.checked, mount.maps, q.room
+    )
 }
 
 // The volume of a query. The comment on `queries` has the fields.
 fn volume_of(q: &[u8]) -> VolumeRecord {
-    let numbers: [u16; 4] = [0; 4];
     VolumeRecord {
         mount: Mount {
             start: le32(q, 0),
             partition: le16(q, 4),
             checked: le32(q, 6),
             maps: le32(q, 10),
-            volumes: numbers,
-            numbers: numbers,
+            volumes: [0; 4],
+            numbers: [0; 4],
             starts: [le32(q, 14), le32(q, 18), le32(q, 22), le32(q, 26)],
         },
         root: no_long(),
@@ -511,78 +468,96 @@ fn volume_of(q: &[u8]) -> VolumeRecord {
     }
 }
 
-fn query(image: &[u8], b: &[u8], out: &mut [u8]) {
+// Reads the file by the call that has the whole image; the sum is that of the bytes that it wrote.
+fn say_call(
+    rt: &impl Print,
+    image: &[u8],
+    q: Question,
+    out: &mut [u8],
+) -> io::Result<(Reply, u64)> {
+    let mount = q.volume.mount;
+    let call = read_file(image, mount, q.icb, out, Refusal::NoRoom);
+    let total = sum(front(out, call.length as usize));
+    println!(rt;
+        "call {} count {} length {} sum {total}",
+        call.answer, call.count, call.length
+    )?;
+    Ok((call, total))
+}
+
+fn query(rt: &(impl Print + AllocGlobal), image: &[u8], b: &[u8]) -> io::Result<()> {
     let q = Question {
         volume: volume_of(b),
         icb: long_at(b, 30),
         room: le32(b, 46) as usize,
     };
-    say_query(q);
-    let call = say_call(image, q, out);
-    let total = total_in(call, out);
-    say_answer(b"call ", call.answer, call.count);
-    say_named(b" length ", call.length);
-    say_named(b" sum ", total);
-    end_line();
-    say_reading(image, q, call, total, out);
+    say_query(rt, q)?;
+    let mut out = vec![in rt.alloc(); 0; ROOM.min(q.room)]?;
+    let (call, total) = say_call(rt, image, q, &mut out)?;
+    say_reading(rt, image, q, call, total)
 }
+
+// The bytes of a query.
+const QUERY: usize = 50;
 
 // The queries, of 50 bytes each: the partition's start (32 bits), its number (16), whether bodies are checked and how
 // many maps there are (32 each), the starts of four maps (32 each), an ICB's 16 bytes, and the room of the output
 // (32).
-fn queries(image: &[u8], all: &[u8], out: &mut [u8]) {
-    let mut i = 0;
-    while i < all.len() {
-        let end = i + 50;
-        query(image, part(all, i, end), out);
-        i = end;
+fn queries(rt: &(impl Print + AllocGlobal), image: &[u8], all: &[u8]) -> io::Result<()> {
+    for q in all.chunks_exact(QUERY) {
+        query(rt, image, q)?;
     }
+    Ok(())
 }
 
-fn ask(image: &[u8], all: &[u8], out: &mut [u8]) {
-    if all.len() == 0 {
-        say_opening(image);
+fn ask(rt: &(impl Print + AllocGlobal), image: &[u8], all: &[u8]) -> io::Result<()> {
+    if all.is_empty() {
+        say_opening(rt, image)?;
     }
-    queries(image, all, out);
+    queries(rt, image, all)
 }
 
 // ---- the file of images
 
 // Runs the image at i with its queries; returns where the next image is.
-fn run(all: &[u8], i: usize, image: &mut [u8], out: &mut [u8]) -> usize
+fn run(rt: &(impl Print + AllocGlobal), all: &[u8], i: usize, image: &mut [u8]) -> io::Result<usize>
     requires { i < length all.now }
-    ensures { i < result }
+    ensures { IfOk result (λ next. i < next) }
 {
     let packed = i + 2 + le16(all, i) as usize;
-    say(b"image ");
-    say(part(all, i + 2, packed));
-    end_line();
+    // The name is shown as it is stored, whatever its bytes are.
+    print!(rt; "image ")?;
+    rt.write_all(part(all, i + 2, packed))?;
+    println!(rt)?;
     let end = packed + 4 + le32(all, packed) as usize;
     let n = expand(part(all, packed + 4, end), image);
-    let next = end + 2 + 50 * le16(all, end) as usize;
-    ask(part(image, 0, n), part(all, end + 2, next), out);
-    next
+    let next = end + 2 + QUERY * le16(all, end) as usize;
+    ask(rt, front(image, n), part(all, end + 2, next))?;
+    Ok(next)
 }
 
-fn run_all(all: &[u8], image: &mut [u8], out: &mut [u8]) {
+fn run_all(rt: &(impl Print + AllocGlobal), all: &[u8], image: &mut [u8]) -> io::Result<()> {
     let mut i = 0;
+    // A `while`, since each image says itself where the next one starts: `for` is no plainer.
     while i < all.len() {
-        i = run(all, i, image, out);
+        i = run(rt, all, i, image)?;
+    }
+    Ok(())
+}
+
+// A line that can't be written doesn't change the exit status. Memory that runs out does.
+fn unless_unwritten(r: io::Result<()>) -> io::Result<()> {
+    match r {
+        Err(e) if e.kind() != io::ErrorKind::OutOfMemory => Ok(()),
+        _ => r,
     }
 }
 
-fn images_space() -> [u8; 262144]
-    ensures { 262144 ≡ length result }
-{
-    [0; 262144]
-}
-
-fn main(rt: HostRuntime) -> std::io::Result<()> {
+fn main(rt: HostRuntime) -> io::Result<()> {
     let file = fs::open(&rt, "images")?;
-    let mut all = images_space();
-    let n = io::read_full(file.as_raw_fd(), &mut all);
+    // A read that fails ends the file.
+    let mut all = [0; IMAGES];
+    let n = read_full(file.as_raw_fd(), &mut all);
     let mut image = two_mebibytes();
-    let mut out = io::large_buffer();
-    run_all(&all[..n], &mut image, &mut out);
-    Ok(())
+    unless_unwritten(run_all(&rt, front(&all, n), &mut image))
 }

@@ -1,4 +1,5 @@
 -- The branch that a lent sector takes of a read's tree is what the code makes of the sector, and one that can't be had ends it by 1. Assumes nothing.
+use Rattle.std.specs.Prelude.{Result, Ok, Err}
 use mathlib.Core.Path.{◌≡◌, refl, ap, ◌∙◌}
 use mathlib.Core.Bool.{Bool, true, false}
 use mathlib.Core.List.{List, ◌++◌}
@@ -13,8 +14,6 @@ use Rattle.disc.specs.Places.{is_checked}
 use Rattle.disc.specs.declared.refusals.Refusal.TheVariants.{Io, Malformed}
 use Rattle.disc.proofs.AskLaws.{then-then}
 use Rattle.tags.specs.Tags.{read_aed}
-use Rattle.tags.specs.declared.AedRead.{AedRead}
-use Rattle.tags.specs.declared.AedRead.TheVariants.{Header, NoHeader}
 use Rattle.areas.specs.declared.AllocExtent.{AllocExtent}
 use Rattle.areas.specs.Areas.{Area, area_at}
 use Rattle.chains.specs.Chains.{area_in}
@@ -28,16 +27,18 @@ use Rattle.drives.specs.Inner.Arrivals.{entry_behind, bytes_behind, extent_behin
 use Rattle.drives.specs.declared.readings.Reading.{Reading}
 use Rattle.drives.proofs.SettleLaws.{IsWant, naming-then}
 use Rattle.drives.proofs.ArrivalLaws.{feed-wants}
+use Rattle.tags.specs.declared.AllocationExtentDescriptor.{AllocationExtentDescriptor}
+use Rattle.disc.specs.declared.refusals.Refusal.{Refusal}
 
 pick_two : {A B : Type 0} (P : A → B → Type 0) (t : Bool) {x x' : A} {y y' : B} → P x y → P x' y' → P (pick t x x') (pick t y y')
 pick_two P true p q = p
 pick_two P false p q = q
 
 -- an area needs no sector of its own
-pub area-alone : (named : List ℕ → ℕ) (kind size : ℕ) (s : List ℕ) (h : AedRead) (f : Area → Feed) → naming named (area_in kind size s h) f ≡ following (area_in kind size s h) f
+pub area-alone : (named : List ℕ → ℕ) (kind size : ℕ) (s : List ℕ) (h : Result AllocationExtentDescriptor Refusal) (f : Area → Feed) → naming named (area_in kind size s h) f ≡ following (area_in kind size s h) f
 unfolding naming following
-area-alone named kind size s (NoHeader r) f = refl
-area-alone named kind size s (Header h) f = by (ltb size (24 + h.length_of_allocation_descriptors))
+area-alone named kind size s (Err r) f = refl
+area-alone named kind size s (Ok h) f = by (ltb size (24 + h.length_of_allocation_descriptors))
   where
     by : (t : Bool)
         → naming named (pick t (refuse Malformed) (done (area_at kind s 24 h.length_of_allocation_descriptors))) f

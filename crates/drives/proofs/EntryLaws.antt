@@ -1,4 +1,5 @@
 -- Laws of the file entry's sector: the file itself, or the front of its chain. Assumes nothing.
+use Rattle.std.specs.Prelude.{Result, Ok, Err}
 use mathlib.Core.Path.{◌≡◌, refl, ap, sym, ◌∙◌}
 use mathlib.Core.Bool.{Bool, false}
 use mathlib.Core.List.{List, [], append-nil}
@@ -15,8 +16,6 @@ use Rattle.areas.specs.Areas.{area_at}
 use Rattle.areas.proofs.PartLaws.{area-in-part}
 use Rattle.entries.specs.FileEntries.{read_entry}
 use Rattle.entries.specs.declared.file_entries.FileEntry.{FileEntry}
-use Rattle.entries.specs.declared.file_entries.EntryRead.{EntryRead}
-use Rattle.entries.specs.declared.file_entries.EntryRead.TheVariants.{Read, Refused}
 use Rattle.entries.proofs.EntryLaws.{read-entry}
 use Rattle.chains.specs.Chains.{most_continuations}
 use Rattle.drives.specs.Feeds.{following, crowded_by, settled_in}
@@ -127,19 +126,19 @@ area-lands r kind missing area row s' row' g q y x f k =
 
 -- ---- its sector
 
-module _ (r : Reading) (sector out : List ℕ) (row : List (List ℕ)) (x : Reading) {c : Bool} {g : EntryRead} (q : g ≡ read_entry c sector) (check : Bool) (k : c ≡ check) where
-  pub entry-inside : (e : FileEntry) → g ≡ Read e → e.area_at + e.area_length ≤ length sector
+module _ (r : Reading) (sector out : List ℕ) (row : List (List ℕ)) (x : Reading) {c : Bool} {g : Result FileEntry Refusal} (q : g ≡ read_entry c sector) (check : Bool) (k : c ≡ check) where
+  pub entry-inside : (e : FileEntry) → g ≡ Ok e → e.area_at + e.area_length ≤ length sector
   entry-inside e h = let i = (read-entry c sector q h).inside in omega arith
 
-  pub entry-refused : (why : Refusal) {n : ℕ} → g ≡ Refused why → n ≡ number why → Ends r n x → Arrives (entry_behind r (read_entry check sector) sector) r out row row x out
+  pub entry-refused : (why : Refusal) {n : ℕ} → g ≡ Err why → n ≡ number why → Ends r n x → Arrives (entry_behind r (read_entry check sector) sector) r out row row x out
   unfolding entry_behind following settled_in
   entry-refused why h m p =
-      let d : read_entry check sector ≡ Refused why = rw (← k, ← q) h in
+      let d : read_entry check sector ≡ Err why = rw (← k, ← q) h in
       rw d (stands-arrives row (stop why) r x out (stands-stop row (stop why) r x why (rw m at p) (λ room. refl)))
 
-  pub entry-arrives : (e : FileEntry) (row' : List (List ℕ)) (out' : List ℕ) → g ≡ Read e → Arrives (entry_feed r.mount (located_in r e sector)) r out row row' x out'
+  pub entry-arrives : (e : FileEntry) (row' : List (List ℕ)) (out' : List ℕ) → g ≡ Ok e → Arrives (entry_feed r.mount (located_in r e sector)) r out row row' x out'
       → Arrives (entry_behind r (read_entry check sector) sector) r out row row' x out'
   unfolding entry_behind following
   entry-arrives e row' out' h p =
-      let d : read_entry check sector ≡ Read e = rw (← k, ← q) h in
+      let d : read_entry check sector ≡ Ok e = rw (← k, ← q) h in
       rw d p

@@ -1,8 +1,8 @@
 -- The feed of a file is the read of `files`: its bytes collected, it is that tree. Assumes nothing.
+use Rattle.std.specs.Prelude.{Option, Some, None}
 use mathlib.Core.Path.{◌≡◌, refl, ap, sym, ◌∙◌, fun_ext}
 use mathlib.Core.Bool.{Bool, true, false}
 use mathlib.Core.List.{List, [], ◌∷◌, ◌++◌, append-nil, append_assoc}
-use mathlib.Core.Option.{Option, none, some}
 use Prim.Native.Nat.{ℕ, zero, suc, ◌+◌, ◌-◌, ◌<◌}
 use native.Mathlib.Omega.{arith}
 use lib.ListN.{length, take, length-append}
@@ -139,8 +139,8 @@ module _ (m : Mount) where
           → collected front (pick t (standing o (λ at. extent_feed (sectors_for e.length) at e.length missing (next_extent es))) (stop Unsupported))
           ≡ then (pick t (placing o (λ at. then (extent_bytes (sectors_for e.length) at e.length missing) (λ b. joining missing b (extents_bytes m es (missing - length b))))) (refuse Unsupported)) (λ b. done (front ++ b))
       by false o = refl
-      by true none = refl
-      by true (some at) =
+      by true None = refl
+      by true (Some at) =
           collected-extent (next_extent es) refl (sectors_for e.length) at e.length missing front
           ∙ then_same (extent_bytes (sectors_for e.length) at e.length missing) _ _ (λ b. extents-behind es missing front b ih)
           ∙ sym (then-then (extent_bytes (sectors_for e.length) at e.length missing) _ (λ b. done (front ++ b)))

@@ -1,4 +1,5 @@
 -- Laws of a continuation's first sector: what it says of the header, the body and the area is what all sectors joined say. Assumes nothing.
+use Rattle.std.specs.Prelude.{Result, Ok, Err}
 use mathlib.Core.Path.{◌≡◌, refl, ap, sym, ◌∙◌}
 use mathlib.Core.Bool.{Bool, true, false, not, ◌&&◌, ◌||◌}
 use mathlib.Core.List.{List, [], ◌∷◌, ◌++◌, append-nil}
@@ -20,8 +21,6 @@ use Rattle.crcs.specs.Crcs.{crc_from, crc_of}
 use Rattle.crcs.proofs.Promises.{from-joined}
 use Rattle.tags.specs.Tags.{tag_of, accepted, read_tag, body_right, with_body, with_id, read_head, aed_after, read_aed}
 use Rattle.tags.specs.declared.DescriptorTag.{DescriptorTag}
-use Rattle.tags.specs.declared.TagRead.{TagRead}
-use Rattle.tags.specs.declared.TagRead.TheVariants.{Read, Refused}
 use Rattle.areas.specs.declared.AllocExtent.{AllocExtent}
 use Rattle.areas.specs.Areas.{size_of, Area, area_at}
 use Rattle.areas.proofs.AreaLaws.{some_size}
@@ -132,7 +131,7 @@ module _ (b more : List ℕ) (long : length b ≡ 2048) where
 
   -- by the id, and by the area's length
   front-id : (kind size : ℕ) (f : Area → Feed) (i : Bool)
-      → following (area_in kind size (b ++ more) (aed_after (b ++ more) (pick i (Read (tag_of b)) (Refused Malformed)))) f
+      → following (area_in kind size (b ++ more) (aed_after (b ++ more) (pick i (Ok (tag_of b)) (Err Malformed)))) f
       ≡ pick (i && leb (24 + u32at b 20) size) (f (area_at kind (b ++ more) 24 (u32at b 20))) (stop Malformed)
   unfolding aed_after following
   front-id kind size f false = refl
@@ -146,7 +145,7 @@ module _ (b more : List ℕ) (long : length b ≡ 2048) where
 
   -- by the body
   front-body : (kind size : ℕ) (f : Area → Feed) (c w : Bool)
-      → following (area_in kind size (b ++ more) (aed_after (b ++ more) (with_id 258 (pick c (pick w (Read (tag_of b)) (Refused BadCrc)) (Read (tag_of b)))))) f
+      → following (area_in kind size (b ++ more) (aed_after (b ++ more) (with_id 258 (pick c (pick w (Ok (tag_of b)) (Err BadCrc)) (Ok (tag_of b)))))) f
       ≡ pick (c && not w) (stop BadCrc) (pick (is_header (tag_of b) size b) (f (area_at kind (b ++ more) 24 (u32at b 20))) (stop Malformed))
   unfolding aed_after with_id following
   front-body kind size f true false = refl
@@ -162,8 +161,8 @@ module _ (b more : List ℕ) (long : length b ≡ 2048) where
       rw (le-leb 24 (length (b ++ more)) (omega arith)) (ap (λ g. following (area_in kind size (b ++ more) (aed_after (b ++ more) (with_id 258 (with_body check (b ++ more) g)))) f) front-tag ∙ by (leb 16 (length b) && accepted b))
     where
       by : (g : Bool)
-          → following (area_in kind size (b ++ more) (aed_after (b ++ more) (with_id 258 (with_body check (b ++ more) (pick g (Read (tag_of b)) (Refused Malformed)))))) f
-          ≡ headed check (body_in (pick g (Read (tag_of b)) (Refused Malformed)) size b) more (f (area_at kind (b ++ more) 24 (u32at b 20)))
+          → following (area_in kind size (b ++ more) (aed_after (b ++ more) (with_id 258 (with_body check (b ++ more) (pick g (Ok (tag_of b)) (Err Malformed)))))) f
+          ≡ headed check (body_in (pick g (Ok (tag_of b)) (Err Malformed)) size b) more (f (area_at kind (b ++ more) 24 (u32at b 20)))
       by false = refl
       by true = rw (front-right (tag_of b) size) (front-body kind size f check (is_right (body_of (tag_of b) size b) more))
 
@@ -206,10 +205,10 @@ head-body t size s {area} {n} {k} {left} {h} l a e g q f =
             let z : 16 + n - 16 ≡ 2032 = omega arith in
             rw (z, take_all 2032 (drop 16 s) (omega arith), take_all t.crc_length (drop 16 s) (omega arith))
 
-pub head_read : (r : TagRead) (size : ℕ) (s : List ℕ) {t : DescriptorTag} {b : Body} → r ≡ Read t → b ≡ body_of t size s → b ≡ body_in r size s
+pub head_read : (r : Result DescriptorTag Refusal) (size : ℕ) (s : List ℕ) {t : DescriptorTag} {b : Body} → r ≡ Ok t → b ≡ body_of t size s → b ≡ body_in r size s
 head_read r size s e f = rw e f
 
-pub head-refused : (r : TagRead) (size : ℕ) (s : List ℕ) {why : Refusal} → r ≡ Refused why → no_body ≡ body_in r size s
+pub head-refused : (r : Result DescriptorTag Refusal) (size : ℕ) (s : List ℕ) {why : Refusal} → r ≡ Err why → no_body ≡ body_in r size s
 head-refused r size s e = rw e
 
 -- nothing is carried at the front of an area
@@ -217,9 +216,9 @@ pub head-begins : (kind : ℕ) {n : ℕ} {s : Scan} → s ≡ begun n → s.carr
 head-begins kind e = let l = some_size kind in rw e (omega arith)
 
 -- the sectors behind it hold the rest of the area
-pub head-held : (size left : ℕ) (s : List ℕ) (r : TagRead) {b : Body} → b ≡ body_in r size s → size ≤ 2048 * (left + 1) → b.area_left ≤ 2048 * left
-head-held size left s (Refused why) e h = rw e (omega arith)
-head-held size left s (Read t) e h = rw e (by (eqb t.id 258) (leb (24 + u32at s 20) size) refl)
+pub head-held : (size left : ℕ) (s : List ℕ) (r : Result DescriptorTag Refusal) {b : Body} → b ≡ body_in r size s → size ≤ 2048 * (left + 1) → b.area_left ≤ 2048 * left
+head-held size left s (Err why) e h = rw e (omega arith)
+head-held size left s (Ok t) e h = rw e (by (eqb t.id 258) (leb (24 + u32at s 20) size) refl)
   where
     by : (i f : Bool) → leb (24 + u32at s 20) size ≡ f → pick (i && f) (u32at s 20 - 2024) 0 ≤ 2048 * left
     by true true q = few (u32at s 20) (leb-true (24 + u32at s 20) size q)
@@ -230,17 +229,17 @@ head-held size left s (Read t) e h = rw e (by (eqb t.id 258) (leb (24 + u32at s 
     by false f q = omega arith
 
 -- the area that the header says, and what is left of it behind the first sector
-pub area-said : (g : TagRead) (size : ℕ) (s : List ℕ) → pick (body_in g size s).headed (u32at s 20) 0 ≡ area_said size s g
-area-said (Read t) size s = refl
-area-said (Refused why) size s = refl
+pub area-said : (g : Result DescriptorTag Refusal) (size : ℕ) (s : List ℕ) → pick (body_in g size s).headed (u32at s 20) 0 ≡ area_said size s g
+area-said (Ok t) size s = refl
+area-said (Err why) size s = refl
 
-area-left : (g : TagRead) (size : ℕ) (s : List ℕ) → (body_in g size s).area_left ≡ area_said size s g - 2024
-area-left (Read t) size s = by (is_header t size s)
+area-left : (g : Result DescriptorTag Refusal) (size : ℕ) (s : List ℕ) → (body_in g size s).area_left ≡ area_said size s g - 2024
+area-left (Ok t) size s = by (is_header t size s)
   where
     by : (h : Bool) → pick h (u32at s 20 - 2024) 0 ≡ pick h (u32at s 20) 0 - 2024
     by true = refl
     by false = refl
-area-left (Refused why) size s = refl
+area-left (Err why) size s = refl
 
 module _ (r : Reading) (row : List (List ℕ)) (sector : List ℕ) (row' : List (List ℕ)) (s' : Scan) (l : length sector ≡ 2048)
     {n : ℕ} (q : n ≡ min (area_said r.size sector (read_tag sector)) 2024) (p : Scans r.kind row (begun r.scan.listed) (take (24 + n - 24) (drop 24 sector)) row' s') where
@@ -303,9 +302,9 @@ module _ (r : Reading) (row : List (List ℕ)) (sector : List ℕ) (row' : List 
       ap (λ k. length (joined es (area_at r.kind (sector ++ more) 24 (min k (length (sector ++ more) - 24))))) (ap (area_said r.size (sector ++ more)) (front-tag sector more l) ∙ front-said (read_tag sector))
       ∙ ap (λ x. length (joined es x)) (come more)
     where
-      front-said : (g : TagRead) → area_said r.size (sector ++ more) g ≡ area_said r.size sector g
-      front-said (Read t) = rw (front-u32 sector more l)
-      front-said (Refused why) = refl
+      front-said : (g : Result DescriptorTag Refusal) → area_said r.size (sector ++ more) g ≡ area_said r.size sector g
+      front-said (Ok t) = rw (front-u32 sector more l)
+      front-said (Err why) = refl
 
   head-full : s'.full ≡ (false || ltb (length row) (named_by r.kind r.size es sector))
   head-full =
@@ -358,7 +357,7 @@ module _ (r : Reading) (row : List (List ℕ)) (sector : List ℕ) (row' : List 
       front more = front-head sector more l (is_checked r.mount) r.kind r.size (behind_area r es)
 
 module _ (r : Reading) (row : List (List ℕ)) (sector : List ℕ) (row' : List (List ℕ)) (s' : Scan) (l : length sector ≡ 2048) where
-  pub head-lands : {n : ℕ} {area : ℕ} {g : TagRead} {b' : Body} {s₀ : Scan} → g ≡ read_tag sector → b' ≡ body_in g r.size sector → area ≡ u32at sector 20 → n ≡ min (pick b'.headed area 0) 2024 → s₀ ≡ begun r.scan.listed
+  pub head-lands : {n : ℕ} {area : ℕ} {g : Result DescriptorTag Refusal} {b' : Body} {s₀ : Scan} → g ≡ read_tag sector → b' ≡ body_in g r.size sector → area ≡ u32at sector 20 → n ≡ min (pick b'.headed area 0) 2024 → s₀ ≡ begun r.scan.listed
       → Scans r.kind row s₀ (take (24 + n - 24) (drop 24 sector)) row' s'
       → (y x : Reading) → y ≡ with_parts r s' b' → ReadingStands row' (crowded_by y.scan.full (in_body y row' y.left (y.at + 1))) y x → Lands row (head_behind r row sector) r row' x
   head-lands {n} {area} {g} {b'} {s₀} t e a m s p y x f k =

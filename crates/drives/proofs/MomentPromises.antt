@@ -3,11 +3,11 @@
 --   as row and output grow, the sectors wanted are those up to the first with which more bytes have come than there was room for    five-at
 --   in an output that stays the last of them holds the first byte without room                                                     still-five
 --   the bytes that the sectors of an answered read bring add up to its bytes                                                       shares-all
+use Rattle.std.specs.Prelude.{Option, Some, None, Result, Ok, Err}
 use mathlib.Core.Path.{◌≡◌, refl, ap, sym, ◌∙◌}
 use mathlib.Core.Bool.{Bool, true, false, ◌||◌}
 use mathlib.Core.List.{List, [], ◌∷◌, ◌++◌, append-nil, append_assoc}
 use mathlib.Core.Logic.{⊎_elim}
-use mathlib.Core.Option.{Option, none, some}
 use Prim.Native.Nat.{ℕ, zero, suc, ◌+◌, ◌-◌, ◌*◌, ◌<◌, ◌≤◌}
 use native.Mathlib.Nat.{add-zero, zero-add}
 use native.Mathlib.Omega.{arith}
@@ -33,8 +33,6 @@ use Rattle.areas.specs.declared.AdEnding.{AdEnding}
 use Rattle.areas.specs.declared.AdEnding.TheVariants.{End, Continuation, Refused}
 use Rattle.areas.specs.Areas.{Area}
 use Rattle.entries.specs.FileEntries.{read_entry}
-use Rattle.entries.specs.declared.file_entries.EntryRead.{EntryRead}
-use Rattle.entries.specs.declared.file_entries.EntryRead.TheVariants.{Read, Refused as NoEntry}
 use Rattle.chains.specs.Chains.{most_continuations, next_area, continued}
 use Rattle.files.specs.Reads.{extents_bytes}
 use Rattle.files.specs.Files.{Located, entry_at, entry_mount, is_embedded, embedded_bytes, located, entry_in, chain_of, File, resolved, file_at, content_of, file_bytes}
@@ -58,6 +56,8 @@ use Rattle.disc.specs.Lists.{asked_behind}
 use Rattle.drives.specs.Walks.{Walk, Still}
 use Rattle.drives.specs.Walks.Walk.{ends, steps}
 use Rattle.drives.specs.Told.{outcome_by}
+use Rattle.entries.specs.declared.file_entries.FileEntry.{FileEntry}
+use Rattle.disc.specs.declared.refusals.Refusal.{Refusal}
 
 slots-not-room : {A : Type 0} → of_slots ≡ of_room → A
 slots-not-room e = absurd (let z : ◌≡◌ {A = ℕ} 0 1 = cc in omega arith)
@@ -158,12 +158,12 @@ entry-one d m icb x e = by (eqb icb.length 0) (icb_placed m icb.location.partiti
 
     by : (t : Bool) (o : Option ℕ) → outcome d (tree t o) ≡ answered x → length (asked d (tree t o)) ≡ 1
     by true o e = never e
-    by false none e = never e
-    by false (some at) e = ap suc (held (d at))
+    by false None e = never e
+    by false (Some at) e = ap suc (held (d at))
       where
-        read : (s : List ℕ) (r : EntryRead) → length (asked d (located at s r)) ≡ 0
-        read s (Read y) = refl
-        read s (NoEntry r) = refl
+        read : (s : List ℕ) (r : Result FileEntry Refusal) → length (asked d (located at s r)) ≡ 0
+        read s (Ok y) = refl
+        read s (Err r) = refl
 
         held : (h : Held) → length (given h (λ s. asked d (located at s (read_entry (is_checked m) s))) []) ≡ 0
         held (holds s) = read s (read_entry (is_checked m) s)
@@ -255,7 +255,7 @@ unfolding brought
 still-five d m icb {out = out} {ns = ns} st w e =
     let f = five-at d m icb st (still-walks w (rw st.filled (omega arith))) e in
     let p = rw (room-none (length ns), add-zero (length out)) at f.full.past in
-    let some : 0 < length ns = least (length ns) (file_shares (length (asked d (file_at m icb))) f.file) p in
+    let Some : 0 < length ns = least (length ns) (file_shares (length (asked d (file_at m icb))) f.file) p in
     record {
       file = f.file;
       resolves = f.resolves;

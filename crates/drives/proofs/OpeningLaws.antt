@@ -1,4 +1,5 @@
 -- Laws of the opening that is fed a sector at a time: each state that the code makes stands for the tree that is left. Assumes nothing.
+use Rattle.std.specs.Prelude.{Option, Some, None, Result, Ok, Err, ⊤}
 use mathlib.Core.Path.{◌≡◌, refl, ap, sym, ◌∙◌}
 use mathlib.Core.Bool.{Bool, true, false}
 use mathlib.Core.List.{List}
@@ -10,15 +11,11 @@ use borrow.Author.Tests.{lt-ltb, le-ltb, eq-eqb, ne_eqb, ltb-true}
 use Rattle.disc.specs.Choice.{pick}
 use Rattle.disc.specs.Refusals.{number}
 use Rattle.disc.specs.Counts.{reported}
-use mathlib.Core.Option.{some}
 use Rattle.disc.specs.Ask.{Held, Ask, Outcome, given, then, ended}
 use Rattle.disc.specs.Ask.Ask.{refuse, ask}
 use Rattle.disc.specs.Ask.Outcome.{answered, refused}
 use Rattle.disc.specs.Places.{placed, BlockStands}
 use Rattle.disc.specs.declared.places.Sector.{Sector}
-use Rattle.disc.specs.declared.places.PartitionRef.TheVariants.{Named}
-use Rattle.disc.specs.declared.places.Placed.{Placed}
-use Rattle.disc.specs.declared.places.Placed.TheVariants.{At, Nowhere}
 use Rattle.disc.specs.declared.refusals.Refusal.{Refusal}
 use Rattle.disc.specs.declared.refusals.Refusal.TheVariants.{Io, NotBluray, Unsupported}
 use Rattle.disc.proofs.RefusalLaws.{refusal-numbered, refusal-known}
@@ -30,14 +27,13 @@ use Rattle.volumes.specs.declared.openings.How.{How}
 use Rattle.descriptors.specs.Volumes.{read_anchor}
 use Rattle.descriptors.specs.FileSets.{read_file_set}
 use Rattle.descriptors.specs.declared.anchors.AnchorVolumeDescriptorPointer.{AnchorVolumeDescriptorPointer}
-use Rattle.descriptors.specs.declared.anchors.AnchorRead.{AnchorRead}
-use Rattle.descriptors.specs.declared.anchors.AnchorRead.TheVariants.{Read as AnAnchor, Refused as NoAnchor}
-use Rattle.volumes.specs.Sequences.{nothing, order_of, any_partition, wanted_of, kept_of, Says, says_in, scan, turn_of}
+use Rattle.volumes.specs.Sequences.{nothing, prevailing, order_of, any_partition, wanted_of, kept_of, Says, says_in, scan, turn_of}
 use Rattle.volumes.specs.Sequences.Says.{found, passed, over, fails}
 use Rattle.volumes.specs.Openings.{usual, no_volume, file_set_ref, file_set_at, file_set_on, plain_mount, mount_of, volume_in, mounting_of, anchored, opening, opened_by}
 use Rattle.volumes.specs.Inner.Steps.{mountable}
 use Rattle.volumes.specs.declared.sequences.Kept.{Kept}
 use Rattle.volumes.specs.declared.sequences.SectorTurn.{SectorTurn}
+use Rattle.volumes.specs.declared.sequences.SectorTurn.TheVariants.{GoesOn, Over, Fails}
 use Rattle.volumes.specs.declared.sequences.Wanted.TheVariants.{Any}
 use Rattle.volumes.specs.declared.openings.VolumeRecord.{VolumeRecord}
 use Rattle.volumes.specs.declared.openings.Opened.{Opened}
@@ -105,10 +101,10 @@ pub stands-anchor : (r : Opening) {k : Kept} → r ≡ place anchor_phase 256 0 
 unfolding tree_of opening
 stands-anchor r e = rw e (record { tree = refl; says = refl })
 
--- what was kept leads on, or is refused; a is the number of the refusal, or 0
-data Leads (k : Kept) (x : Ask VolumeRecord) (a : ℕ) : Type 0 where
-  on : x ≡ file_set_on false k (plain_mount false k) → a ≡ 0 → Leads k x a
-  off : (why : Refusal) → x ≡ refuse why → a ≡ number why → Leads k x a
+-- what was kept leads on, or is refused, as the code says it
+data Leads (k : Kept) (x : Ask VolumeRecord) (a : Result ⊤ Refusal) : Type 0 where
+  on : x ≡ file_set_on false k (plain_mount false k) → (u : ⊤) → a ≡ Ok u → Leads k x a
+  off : (why : Refusal) → x ≡ refuse why → a ≡ Err why → Leads k x a
 
 leads : (k : Kept) → Leads k (mounting_from k) (mountable k)
 unfolding mounting_of mountable mount_of then
@@ -117,39 +113,39 @@ leads k = by k.has_primary k.has_partition k.has_logical (eqb k.block_size 2048)
     by : (a b c e : Bool)
         → Leads k
         (pick a (pick b (pick c (pick e (file_set_on false k (plain_mount false k)) (refuse Unsupported)) (refuse NotBluray)) (refuse NotBluray)) (refuse NotBluray))
-        (pick a (pick b (pick c (pick e 0 4) 3) 3) 3)
+        (pick a (pick b (pick c (pick e (Ok tt) (Err Unsupported)) (Err NotBluray)) (Err NotBluray)) (Err NotBluray))
     by false b c e = off NotBluray refl refl
     by true false c e = off NotBluray refl refl
     by true true false e = off NotBluray refl refl
     by true true true false = off Unsupported refl refl
-    by true true true true = on refl refl
+    by true true true true = on refl tt refl
 
-leads-on : {k : Kept} {x : Ask VolumeRecord} {a : ℕ} → Leads k x a → a ≡ 0 → x ≡ file_set_on false k (plain_mount false k)
-leads-on (on e z) h = e
-leads-on (off why e z) h = absurd (refusal-numbered why (sym z ∙ h))
+leads-on : {k : Kept} {x : Ask VolumeRecord} {a : Result ⊤ Refusal} {u : ⊤} → Leads k x a → a ≡ Ok u → x ≡ file_set_on false k (plain_mount false k)
+leads-on (on e v z) h = e
+leads-on (off why e z) h = absurd (let y : ◌≡◌ {A = ℕ} 0 1 = cc in omega arith)
 
-module _ (k : Kept) (n : ℕ) (r : Opening) {a : ℕ} (e : a ≡ mountable k) where
-  pub sequence-not : {x : Opened} → (a ≡ 0 → ⊥) → x ≡ record { answer = a; count = n; volume = no_volume } → Ended r x → OpeningStands (mounting_from k) n r
-  sequence-not {x} h q g = by (leads k)
+module _ (k : Kept) (n : ℕ) (r : Opening) {a : Result ⊤ Refusal} (e : a ≡ mountable k) where
+  pub sequence-not : {why : Refusal} → a ≡ Err why → {i : ℕ} → i ≡ number why → {x : Opened} → x ≡ record { answer = i; count = n; volume = no_volume } → Ended r x → OpeningStands (mounting_from k) n r
+  sequence-not {why} h {i} v {x} q g = by (leads k)
     where
       by : Leads k (mounting_from k) (mountable k) → OpeningStands (mounting_from k) n r
-      by (on f z) = absurd (h (e ∙ z))
-      by (off why f z) = stands-refused (mounting_from k) n r why f (e ∙ z) g q
+      by (on f u z) = absurd (let y : ◌≡◌ {A = ℕ} 0 1 = cc in omega arith)
+      by (off w f z) = let same : why ≡ w = cc in stands-refused (mounting_from k) n r w f (v ∙ ap number same) g q
 
-  module _ (z : a ≡ 0) {m : Mount} (w : m ≡ plain_mount false k) {p : Placed} (q : BlockStands m (Named (file_set_ref k)) k.file_set.location.block p) where
-    pub sequence-nowhere : {x : Opened} → p ≡ Nowhere → x ≡ record { answer = 4; count = n; volume = no_volume } → Ended r x → OpeningStands (mounting_from k) n r
+  module _ {u : ⊤} (z : a ≡ Ok u) {m : Mount} (w : m ≡ plain_mount false k) {p : Option Sector} (q : BlockStands m (Some (file_set_ref k)) k.file_set.location.block p) where
+    pub sequence-nowhere : {x : Opened} → p ≡ None → x ≡ record { answer = 4; count = n; volume = no_volume } → Ended r x → OpeningStands (mounting_from k) n r
     sequence-nowhere h f g =
         let l = leads-on (leads k) (sym e ∙ z) in
-        let d = stands-nowhere m (Named (file_set_ref k)) k.file_set.location.block q h in
+        let d = stands-nowhere m (Some (file_set_ref k)) k.file_set.location.block q h in
         stands-refused (mounting_from k) n r Unsupported (l ∙ rw (← w, d)) refl g f
 
-    pub sequence-at : {s : Sector} → p ≡ At s → r ≡ place file_set_phase s.0 0 k n → OpeningStands (mounting_from k) n r
+    pub sequence-at : {s : Sector} → p ≡ Some s → r ≡ place file_set_phase s.0 0 k n → OpeningStands (mounting_from k) n r
     unfolding tree_of
     sequence-at {s} h g =
         let l = leads-on (leads k) (sym e ∙ z) in
-        let d = stands_at m (Named (file_set_ref k)) k.file_set.location.block q h in
-        let low = stands-low m (Named (file_set_ref k)) k.file_set.location.block q h in
-        let d' : placed (plain_mount false k) (Named (file_set_ref k)) k.file_set.location.block ≡ some s.0 = rw w at d in
+        let d = stands_at m (Some (file_set_ref k)) k.file_set.location.block q h in
+        let low = stands-low m (Some (file_set_ref k)) k.file_set.location.block q h in
+        let d' : placed (plain_mount false k) (Some (file_set_ref k)) k.file_set.location.block ≡ Some s.0 = rw w at d in
         rw (l, d', g) (record { tree = rw (lt-ltb (s.0 + 0) most_sectors (small s.0 low)); says = refl })
       where
         small : (x : ℕ) → x < 2 ^ 33 → x + 0 < most_sectors
@@ -181,12 +177,12 @@ module _ (n first c : ℕ) (r : Opening) {k : Kept} (e : k ≡ nothing) where
       near : (m a : ℕ) → m < 2 ^ 32 → a < 2 ^ 32 → a + (m - 1) < most_sectors
       near m a l f = omega arith
 
-module _ (c : ℕ) (r : Opening) {x : AnchorRead} where
-  pub anchor-not : {why : Refusal} {a : ℕ} {o : Opened} → x ≡ NoAnchor why → a ≡ number why → o ≡ record { answer = a; count = c; volume = no_volume } → Ended r o
+module _ (c : ℕ) (r : Opening) {x : Result AnchorVolumeDescriptorPointer Refusal} where
+  pub anchor-not : {why : Refusal} {a : ℕ} {o : Opened} → x ≡ Err why → a ≡ number why → o ≡ record { answer = a; count = c; volume = no_volume } → Ended r o
       → OpeningStands (anchored usual x) c r
   anchor-not {why} e q f g = stands-refused (anchored usual x) c r why (rw e) q g f
 
-  pub anchor-leads : {d : AnchorVolumeDescriptorPointer} → x ≡ AnAnchor d
+  pub anchor-leads : {d : AnchorVolumeDescriptorPointer} → x ≡ Ok d
       → OpeningStands (scanning nothing (d.main_volume_descriptor_sequence.length / 2048) d.main_volume_descriptor_sequence.location) c r
       → OpeningStands (anchored usual x) c r
   unfolding scanning mounting_of mount_of
@@ -194,55 +190,55 @@ module _ (c : ℕ) (r : Opening) {x : AnchorRead} where
 
 -- one sector of it
 module _ (k : Kept) (n at : ℕ) where
-  turn-goes : (x : Says) {t : SectorTurn} → t ≡ turn_of (order_of usual) any_partition k x → t.going ≡ true → scan_from k n at x ≡ scanning t.kept n (at + 1)
+  turn-goes : (x : Says) {j : Kept} → GoesOn j ≡ turn_of (order_of usual) any_partition k x → scan_from k n at x ≡ scanning j n (at + 1)
   unfolding scanning then kept_of
-  turn-goes (found p) e g = then-then (scan false n (at + 1)) _ _ ∙ rw e
-  turn-goes passed e g = rw e
-  turn-goes over e g = not-both (sym (ap (λ (t : SectorTurn). t.going) e) ∙ g)
-  turn-goes (fails why) e g = not-both (sym (ap (λ (t : SectorTurn). t.going) e) ∙ g)
+  turn-goes (found p) {j} e = let same : j ≡ prevailing (order_of usual) any_partition k p = cc in then-then (scan false n (at + 1)) _ _ ∙ rw same
+  turn-goes passed {j} e = let same : j ≡ k = cc in rw same
+  turn-goes over e = absurd (let y : ◌≡◌ {A = ℕ} 0 1 = cc in omega arith)
+  turn-goes (fails why) e = absurd (let y : ◌≡◌ {A = ℕ} 0 1 = cc in omega arith)
 
-  turn-over : (x : Says) {t : SectorTurn} → t ≡ turn_of (order_of usual) any_partition k x → t.going ≡ false → t.answer ≡ 0 → scan_from k n at x ≡ mounting_from t.kept
+  turn-over : (x : Says) {j : Kept} → Over j ≡ turn_of (order_of usual) any_partition k x → scan_from k n at x ≡ mounting_from j
   unfolding then kept_of
-  turn-over (found p) e g z = not-both (sym g ∙ ap (λ (t : SectorTurn). t.going) e)
-  turn-over passed e g z = not-both (sym g ∙ ap (λ (t : SectorTurn). t.going) e)
-  turn-over over e g z = rw e
-  turn-over (fails why) e g z = absurd (refusal-numbered why (sym (ap (λ (t : SectorTurn). t.answer) e) ∙ z))
+  turn-over (found p) e = absurd (let y : ◌≡◌ {A = ℕ} 0 1 = cc in omega arith)
+  turn-over passed e = absurd (let y : ◌≡◌ {A = ℕ} 0 1 = cc in omega arith)
+  turn-over over {j} e = let same : j ≡ k = cc in rw same
+  turn-over (fails why) e = absurd (let y : ◌≡◌ {A = ℕ} 0 1 = cc in omega arith)
 
-  turn-fails : (x : Says) {t : SectorTurn} (c : ℕ) (r : Opening) {o : Opened} → t ≡ turn_of (order_of usual) any_partition k x → t.going ≡ false → (t.answer ≡ 0 → ⊥)
-      → o ≡ record { answer = t.answer; count = c; volume = no_volume } → Ended r o → OpeningStands (scan_from k n at x) c r
+  turn-fails : (x : Says) {why : Refusal} → Fails why ≡ turn_of (order_of usual) any_partition k x → scan_from k n at x ≡ refuse why
   unfolding then
-  turn-fails (found p) c r e g z f q = not-both (sym g ∙ ap (λ (t : SectorTurn). t.going) e)
-  turn-fails passed c r e g z f q = not-both (sym g ∙ ap (λ (t : SectorTurn). t.going) e)
-  turn-fails over c r e g z f q = absurd (z (ap (λ (t : SectorTurn). t.answer) e))
-  turn-fails (fails why) c r e g z f q = stands-refused _ c r why refl (ap (λ (t : SectorTurn). t.answer) e) q f
+  turn-fails (found p) e = absurd (let y : ◌≡◌ {A = ℕ} 0 1 = cc in omega arith)
+  turn-fails passed e = absurd (let y : ◌≡◌ {A = ℕ} 0 1 = cc in omega arith)
+  turn-fails over e = absurd (let y : ◌≡◌ {A = ℕ} 0 1 = cc in omega arith)
+  turn-fails (fails x) {why} e = let same : why ≡ x = cc in rw same
 
   module _ (b : List ℕ) (c : ℕ) (r : Opening) {h : How} (u : h ≡ usual) {t : SectorTurn} (e : t ≡ turn_of (order_of h) (wanted_of Any) k (says_in h.checked b)) where
     turn-usual : t ≡ turn_of (order_of usual) any_partition k (says_in false b)
     turn-usual = rw u at e
 
-    pub sector-last : t.going ≡ true → n ≡ 0 → OpeningStands (mounting_from t.kept) c r → OpeningStands (behind_sector k n at b) c r
-    sector-last g z q = rw (turn-goes (says_in false b) turn-usual g, z, scan-none t.kept (at + 1)) q
+    module _ {j : Kept} (g : t ≡ GoesOn j) where
+      pub sector-last : n ≡ 0 → OpeningStands (mounting_from j) c r → OpeningStands (behind_sector k n at b) c r
+      sector-last z q = rw (turn-goes (says_in false b) (sym g ∙ turn-usual), z, scan-none j (at + 1)) q
 
-    pub sector-next : t.going ≡ true → (n ≡ 0 → ⊥) → at + n < most_sectors → r ≡ place sequence_phase (at + 1) (n - 1) t.kept c → OpeningStands (behind_sector k n at b) c r
-    sector-next g z l q =
-        rw (turn-goes (says_in false b) turn-usual g)
-        (rw (one_less n z, ← q) at (scan-place t.kept (at + 1) (n - 1) c (less at n l z)))
-      where
-        less : (a m : ℕ) → a + m < most_sectors → (m ≡ 0 → ⊥) → a + 1 + (m - 1) < most_sectors
-        less a zero l z = absurd (z refl)
-        less a (suc m) l z = omega arith
+      pub sector-next : (n ≡ 0 → ⊥) → at + n < most_sectors → r ≡ place sequence_phase (at + 1) (n - 1) j c → OpeningStands (behind_sector k n at b) c r
+      sector-next z l q =
+          rw (turn-goes (says_in false b) (sym g ∙ turn-usual))
+          (rw (one_less n z, ← q) at (scan-place j (at + 1) (n - 1) c (less at n l z)))
+        where
+          less : (a m : ℕ) → a + m < most_sectors → (m ≡ 0 → ⊥) → a + 1 + (m - 1) < most_sectors
+          less a zero l z = absurd (z refl)
+          less a (suc m) l z = omega arith
 
-    pub sector-fails : {o : Opened} → t.going ≡ false → (t.answer ≡ 0 → ⊥) → o ≡ record { answer = t.answer; count = c; volume = no_volume } → Ended r o
+    pub sector-fails : {why : Refusal} → t ≡ Fails why → {a : ℕ} → a ≡ number why → {o : Opened} → o ≡ record { answer = a; count = c; volume = no_volume } → Ended r o
         → OpeningStands (behind_sector k n at b) c r
-    sector-fails g z f q = turn-fails (says_in false b) c r turn-usual g z f q
+    sector-fails {why} g v f q = stands-refused _ c r why (turn-fails (says_in false b) (sym g ∙ turn-usual)) v q f
 
-    pub sector-over : t.going ≡ false → t.answer ≡ 0 → OpeningStands (mounting_from t.kept) c r → OpeningStands (behind_sector k n at b) c r
-    sector-over g z q = rw (turn-over (says_in false b) turn-usual g z) q
+    pub sector-over : {j : Kept} → t ≡ Over j → OpeningStands (mounting_from j) c r → OpeningStands (behind_sector k n at b) c r
+    sector-over g q = rw (turn-over (says_in false b) (sym g ∙ turn-usual)) q
 
 -- ---- a step
 
 module _ (o : Opening) (b : List ℕ) (c : ℕ) (r : Opening) where
-  pub taken-anchor : {x : AnchorRead} → o.phase ≡ 0 → x ≡ read_anchor false b → OpeningStands (anchored usual x) c r → OpeningStands (behind_wanted o b) c r
+  pub taken-anchor : {x : Result AnchorVolumeDescriptorPointer Refusal} → o.phase ≡ 0 → x ≡ read_anchor false b → OpeningStands (anchored usual x) c r → OpeningStands (behind_wanted o b) c r
   taken-anchor z e q = rw (z, ← e) q
 
   pub taken-sector : o.phase ≡ 1 → OpeningStands (behind_sector o.kept o.left o.at b) c r → OpeningStands (behind_wanted o b) c r

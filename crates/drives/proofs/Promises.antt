@@ -1,8 +1,8 @@
 -- What is promised of the reader that is fed, on every disc: RULES 14. Assumes nothing.
+use Rattle.std.specs.Prelude.{Option, Some, None}
 use mathlib.Core.Path.{◌≡◌, refl, ap, sym, ◌∙◌}
 use mathlib.Core.Bool.{Bool, true, false}
 use mathlib.Core.List.{List, [], ◌∷◌, ◌++◌}
-use mathlib.Core.Option.{Option, none, some}
 use Prim.Native.Nat.{ℕ, zero, suc, ◌+◌, ◌-◌, ◌<◌, ◌≤◌}
 use native.Mathlib.Nat.{zero-add}
 use native.Mathlib.Omega.{arith}
@@ -172,8 +172,8 @@ extents-free m (e ∷ es) missing = pick-both Free (eqb e.extent_type 0) (by (pl
   where
     by : (o : Option ℕ) → ((w : ℕ) → Free (extents_feed m es w))
         → Free (standing o (λ at. extent_feed (Rattle.disc.specs.Images.sectors_for e.length) at e.length missing (λ left. pick (leb left 0) over (extents_feed m es left))))
-    by none ih = tt
-    by (some at) ih = extent-free (Rattle.disc.specs.Images.sectors_for e.length) at e.length missing _ (λ w. pick-both Free (leb w 0) tt (ih w))
+    by None ih = tt
+    by (Some at) ih = extent-free (Rattle.disc.specs.Images.sectors_for e.length) at e.length missing _ (λ w. pick-both Free (leb w 0) tt (ih w))
 
 chain_first : (m : Mount) (kind n missing : ℕ) (es : List AllocExtent) (how : AdEnding) → HoldsFirst (chain_feed m kind n missing es how)
 unfolding HoldsFirst chain_feed

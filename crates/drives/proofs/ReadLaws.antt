@@ -1,13 +1,12 @@
 -- Laws of a read's start, of its step, and of the row that is zeroed. Assumes nothing.
+use Rattle.std.specs.Prelude.{Option, Some, None}
 use mathlib.Core.Path.{◌≡◌, refl, ap, sym, ◌∙◌}
 use mathlib.Core.Bool.{Bool, true, false}
-use mathlib.Core.List.{List, append-nil}
-use Prim.Native.Nat.{ℕ, suc, ◌+◌, ◌-◌, ◌<◌, ◌≤◌}
-use native.Mathlib.Nat.{add-zero, zero-add, sub-zero}
-use native.Mathlib.Numerals.{add-one}
+use mathlib.Core.List.{List}
+use Prim.Native.Nat.{ℕ, ◌+◌, ◌-◌}
+use native.Mathlib.Nat.{add-zero}
 use native.Mathlib.Omega.{arith}
-use lib.ListN.{length, replicate, set, drop_of_length-le, length-set, length-replicate}
-use lib.Seq.{sets, sets-eq}
+use lib.ListN.{length, replicate, length-replicate}
 use borrow.Author.Tests.{lt-ltb, eq-eqb, ne_eqb}
 use Rattle.disc.specs.Choice.{pick}
 use Rattle.disc.specs.Counts.{reported}
@@ -16,8 +15,6 @@ use Rattle.disc.specs.Ask.Ask.{refuse}
 use Rattle.disc.specs.Places.{icb_placed, StandsIn}
 use Rattle.disc.specs.declared.places.Mount.{Mount}
 use Rattle.disc.specs.declared.places.Sector.{Sector}
-use Rattle.disc.specs.declared.places.Placed.{Placed}
-use Rattle.disc.specs.declared.places.Placed.TheVariants.{At, Nowhere}
 use Rattle.disc.specs.declared.refusals.Refusal.{Refusal}
 use Rattle.disc.specs.declared.refusals.Refusal.TheVariants.{Io, Malformed, Unsupported}
 use Rattle.disc.proofs.PickLaws.{not-both}
@@ -36,39 +33,10 @@ use Rattle.drives.proofs.TurnLaws.{ends-left, ends-not, end-stop}
 use Rattle.drives.proofs.ArrivalLaws.{put-nothing}
 use Rattle.drives.proofs.BranchLaws.{left-taken, left-lost}
 
--- ---- the loop that zeroes a row has come to i
+-- ---- a row of zeros
 
 abbrev no_extent : List ℕ
 no_extent = replicate 4 0
-
-pub record Clearing (row₀ row : List (List ℕ)) (i : ℕ) : Type 0 where
-  pub within : i ≤ length row₀
-  pub long : length row ≡ length row₀
-  pub rest : sets row i (replicate (length row₀ - i) no_extent) ≡ zeroed row₀
-
-sets-whole : (v row : List (List ℕ)) → length v ≡ length row → sets row 0 v ≡ v
-sets-whole v row e =
-    let h : length v ≤ length row = omega arith in
-    let k : length row ≤ length v = omega arith in
-    sets-eq v row 0 (rw zero-add h) ∙ rw (zero-add, drop_of_length-le row k) (append-nil v)
-
-pub clear-starts : (row : List (List ℕ)) → Clearing row row 0
-clear-starts row = record { within = omega arith; long = refl; rest = rw sub-zero (sets-whole (zeroed row) row (simp length-replicate)) }
-
-module _ {row₀ row : List (List ℕ)} {i : ℕ} (p : Clearing row₀ row i) where
-  pub clear_next : i < length row → Clearing row₀ (set row i (replicate 4 0)) (i + 1)
-  clear_next h =
-      let e : length row₀ - i ≡ suc (length row₀ - (i + 1)) = omega (arith, p.long) in
-      record {
-        within = omega (arith, p.long);
-        long = rw length-set p.long;
-        rest = rw (← (rw e at p.rest)) (rw add-one);
-      }
-
-  pub clear-ends : length row ≤ i → row ≡ zeroed row₀
-  clear-ends h =
-      let e : length row₀ - i ≡ 0 = omega (arith, p.long) in
-      rw e at p.rest
 
 zeroed-long : (row : List (List ℕ)) → length (zeroed row) ≡ length row
 zeroed-long row = simp length-replicate
@@ -91,12 +59,12 @@ module _ (m : Mount) (icb : LongAd) (row row' : List (List ℕ)) (z : row' ≡ z
   unfolding entry_at
   start-short x l b p = starts-stop 0 Malformed (rw (eq-eqb icb.length 0 l)) b x p
 
-  module _ (l : icb.length ≡ 0 → ⊥) {p : Placed} (q : StandsIn (icb_placed m icb.location.partition_ref icb.location.block) p) where
-    pub start-nowhere : p ≡ Nowhere → (x : Reading) → r ≡ beginning o 0 → Ends r 4 x → Starts (file_feed m icb) row row' x
+  module _ (l : icb.length ≡ 0 → ⊥) {p : Option Sector} (q : StandsIn (icb_placed m icb.location.partition_ref icb.location.block) p) where
+    pub start-nowhere : p ≡ None → (x : Reading) → r ≡ beginning o 0 → Ends r 4 x → Starts (file_feed m icb) row row' x
     unfolding entry_at
     start-nowhere e x b g = starts-stop 0 Unsupported (rw (ne_eqb icb.length 0 l, in-nowhere _ q e)) b x g
 
-    pub start-at : {s : Sector} → p ≡ At s → r ≡ beginning o s.0 → Starts (file_feed m icb) row row' r
+    pub start-at : {s : Sector} → p ≡ Some s → r ≡ beginning o s.0 → Starts (file_feed m icb) row row' r
     unfolding left_of feed_of file_feed entry_at following
     start-at {s} e b =
         let k = in-low _ q e in

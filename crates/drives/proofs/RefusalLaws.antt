@@ -1,9 +1,9 @@
 -- Which refusals a file's read says by itself: 1, 2, 4, and 10 where bodies are checked. So 5 and 7 are given exactly when lent memory is short. Assumes
 -- nothing.
+use Rattle.std.specs.Prelude.{Option, Some, None, Result, Ok, Err}
 use mathlib.Core.Path.{◌≡◌, refl, sym, subst}
 use mathlib.Core.Bool.{Bool, true, false}
 use mathlib.Core.List.{List, [], ◌∷◌, ◌++◌}
-use mathlib.Core.Option.{Option, none, some}
 use Prim.Native.Nat.{ℕ, zero, suc, ◌+◌, ◌-◌}
 use native.Mathlib.Omega.{arith}
 use lib.ListN.{length, take}
@@ -21,8 +21,6 @@ use Rattle.disc.specs.declared.refusals.Refusal.TheVariants.{Io, Malformed, Unsu
 use Rattle.disc.proofs.PickLaws.{pick-both}
 use Rattle.records.specs.declared.allocations.LongAd.{LongAd}
 use Rattle.tags.specs.Tags.{read_aed}
-use Rattle.tags.specs.declared.AedRead.{AedRead}
-use Rattle.tags.specs.declared.AedRead.TheVariants.{Header, NoHeader}
 use Rattle.tags.proofs.HeadLaws.{aed-refused}
 use Rattle.areas.specs.declared.AllocExtent.{AllocExtent}
 use Rattle.areas.specs.declared.AdContinuation.{AdContinuation}
@@ -31,8 +29,6 @@ use Rattle.areas.specs.declared.AdEnding.TheVariants.{End, Continuation, Refused
 use Rattle.areas.specs.Areas.{Area, area_at}
 use Rattle.areas.proofs.AreaLaws.{area-refused}
 use Rattle.entries.specs.FileEntries.{read_entry}
-use Rattle.entries.specs.declared.file_entries.EntryRead.{EntryRead}
-use Rattle.entries.specs.declared.file_entries.EntryRead.TheVariants.{Read, Refused as NoEntry}
 use Rattle.entries.proofs.EntryLaws.{read-entry-refused}
 use Rattle.chains.specs.Chains.{area_in, next_area, area_from}
 use Rattle.files.specs.Files.{Located, located, entry_at, entry_mount, is_embedded}
@@ -42,6 +38,8 @@ use Rattle.drives.specs.Feeds.End.{refuses}
 use Rattle.drives.specs.FileFeeds.{extent_feed, standing, extents_feed, named_by, chain_feed, entry_feed, file_feed}
 use Rattle.drives.proofs.SettleLaws.{naming-then}
 use Rattle.drives.proofs.BranchLaws.{area-alone}
+use Rattle.tags.specs.declared.AllocationExtentDescriptor.{AllocationExtentDescriptor}
+use Rattle.entries.specs.declared.file_entries.FileEntry.{FileEntry}
 
 -- the numbers that a read says by itself
 abbrev pub Own : Refusal → Type 0
@@ -93,8 +91,8 @@ extents-say m (e ∷ es) missing = pick-both Says (eqb e.extent_type 0) (by (pla
   where
     by : (o : Option ℕ) → ((w : ℕ) → Says (extents_feed m es w))
         → Says (standing o (λ at. extent_feed (sectors_for e.length) at e.length missing (λ left. pick (leb left 0) over (extents_feed m es left))))
-    by none ih = unsupported
-    by (some at) ih = extent-says (sectors_for e.length) at e.length missing _ (λ w. pick-both Says (leb w 0) tt (ih w))
+    by None ih = unsupported
+    by (Some at) ih = extent-says (sectors_for e.length) at e.length missing _ (λ w. pick-both Says (leb w 0) tt (ih w))
 
 -- ---- the chain
 
@@ -124,9 +122,9 @@ area-says : (check : Bool) (kind size : ℕ) (s : List ℕ) (f : Area → Feed) 
 unfolding Says following
 area-says check kind size s f h = by (read_aed check s) refl
   where
-    by : (r : AedRead) → read_aed check s ≡ r → Says (following (area_in kind size s r) f)
-    by (NoHeader r) e = aed-refused check s Own malformed (λ c. crc) (sym e) refl
-    by (Header t) e = told (ltb size (24 + t.length_of_allocation_descriptors))
+    by : (r : Result AllocationExtentDescriptor Refusal) → read_aed check s ≡ r → Says (following (area_in kind size s r) f)
+    by (Err r) e = aed-refused check s Own malformed (λ c. crc) (sym e) refl
+    by (Ok t) e = told (ltb size (24 + t.length_of_allocation_descriptors))
       where
         told : (b : Bool) → Says (following (pick b (refuse Malformed) (done (area_at kind s 24 t.length_of_allocation_descriptors))) f)
         told true = malformed
@@ -141,10 +139,10 @@ next-says named m kind a f h = by (placed m a.partition_ref a.block.0) (ltb a.le
 
     by : (o : Option ℕ) (short long : Bool)
         → Says (naming named (placing o (λ at. pick short (refuse Malformed) (pick long (refuse Unsupported) (then (sectors (sectors_for a.length) at) area)))) f)
-    by none short long = unsupported
-    by (some at) true long = malformed
-    by (some at) false true = unsupported
-    by (some at) false false =
+    by None short long = unsupported
+    by (Some at) true long = malformed
+    by (Some at) false true = unsupported
+    by (Some at) false false =
         subst Says (sym (naming-then named (sectors (sectors_for a.length) at) area f (λ n s. area-alone n kind a.length s (read_aed (is_checked m) s) f)))
         (sectors-say named (sectors_for a.length) at _ (λ s. area-says (is_checked m) kind a.length s f h))
 
@@ -167,11 +165,11 @@ pub file-says : (m : Mount) (icb : LongAd) → Says (file_feed m icb)
 unfolding Says file_feed following entry_at
 file-says m icb = by (eqb icb.length 0) (icb_placed m icb.location.partition_ref icb.location.block)
   where
-    read : (at : ℕ) (s : List ℕ) (x : EntryRead) → x ≡ read_entry (is_checked m) s → Says (following (located at s x) (entry_feed (entry_mount m icb)))
-    read at s (Read e) h = entry-says (entry_mount m icb) (record { at = at; sector = s; entry = e })
-    read at s (NoEntry r) h = read-entry-refused (is_checked m) s Own malformed (λ c. crc) h refl
+    read : (at : ℕ) (s : List ℕ) (x : Result FileEntry Refusal) → x ≡ read_entry (is_checked m) s → Says (following (located at s x) (entry_feed (entry_mount m icb)))
+    read at s (Ok e) h = entry-says (entry_mount m icb) (record { at = at; sector = s; entry = e })
+    read at s (Err r) h = read-entry-refused (is_checked m) s Own malformed (λ c. crc) h refl
 
     by : (t : Bool) (o : Option ℕ) → Says (following (pick t (refuse Malformed) (placing o (Rattle.files.specs.Files.entry_in (is_checked m)))) (entry_feed (entry_mount m icb)))
     by true o = malformed
-    by false none = unsupported
-    by false (some at) = λ s. read at s (read_entry (is_checked m) s) refl
+    by false None = unsupported
+    by false (Some at) = λ s. read at s (read_entry (is_checked m) s) refl

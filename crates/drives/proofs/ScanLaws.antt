@@ -1,4 +1,5 @@
 -- Laws of an area whose bytes come one at a time: each place leads to what the whole area gives. Assumes nothing.
+use Rattle.std.specs.Prelude.{Option, Some, None}
 use mathlib.Core.Path.{◌≡◌, refl, ap, sym, ◌∙◌}
 use mathlib.Core.Bool.{Bool, true, false, ◌||◌}
 use mathlib.Core.List.{List, [], ◌∷◌, ◌++◌, map, map-append, append_assoc}
@@ -10,8 +11,6 @@ use lib.Seq.{take-suc-set, drop-cons, take_all}
 use lib.Dec.{ltb}
 use borrow.Author.Tests.{lt-ltb, le-ltb, ne_eqb}
 use Rattle.disc.proofs.PickLaws.{not-both}
-use Rattle.disc.specs.declared.places.PartitionRef.{PartitionRef}
-use Rattle.disc.specs.declared.places.PartitionRef.TheVariants.{Unnamed, Named}
 use Rattle.disc.specs.declared.refusals.Refusal.{Refusal}
 use Rattle.disc.specs.declared.refusals.Refusal.TheVariants.{Unsupported}
 use Rattle.areas.specs.declared.AllocExtent.{AllocExtent}
@@ -30,16 +29,16 @@ use Rattle.drives.specs.declared.scans.Scan.{Scan}
 
 -- ---- the numbers of the row
 
-pub reference-unnamed : (r : PartitionRef) → r ≡ Unnamed → reference_in 65536 ≡ r
+pub reference-unnamed : (r : Option ℕ) → r ≡ None → reference_in 65536 ≡ r
 reference-unnamed r e = sym e
 
-pub reference-named : (r : PartitionRef) (p : ℕ) → r ≡ Named p → p < 65536 → reference_in p ≡ r
+pub reference-named : (r : Option ℕ) (p : ℕ) → r ≡ Some p → p < 65536 → reference_in p ≡ r
 reference-named r p e h = rw (lt-ltb p 65536 h) (sym e)
 
-pub reference-low : (n : ℕ) → n < 65536 → Named n ≡ reference_in n
+pub reference-low : (n : ℕ) → n < 65536 → Some n ≡ reference_in n
 reference-low n h = rw (lt-ltb n 65536 h)
 
-pub reference-high : (n : ℕ) → 65536 ≤ n → Unnamed ≡ reference_in n
+pub reference-high : (n : ℕ) → 65536 ≤ n → None ≡ reference_in n
 reference-high n h = rw (le-ltb n 65536 h)
 
 pub words_are : (e : AllocExtent) (n : ℕ) → reference_in n ≡ e.partition_ref → extent_in (e.length ∷ e.extent_type ∷ e.block.0 ∷ n ∷ []) ≡ e

@@ -1,8 +1,8 @@
 -- Laws of the bytes that each sector of a read brings: 5 is told behind the first with which there are more than there is room for. Assumes nothing.
+use Rattle.std.specs.Prelude.{Option, Some, None}
 use mathlib.Core.Path.{◌≡◌, refl, ap, sym, ◌∙◌}
 use mathlib.Core.Bool.{Bool, true, false}
 use mathlib.Core.List.{List, [], ◌∷◌, ◌++◌, append-nil}
-use mathlib.Core.Option.{Option, none, some}
 use Prim.Native.Nat.{ℕ, zero, suc, ◌+◌, ◌-◌, ◌*◌, ◌≤◌, min}
 use native.Mathlib.Nat.{zero-add, add_assoc}
 use native.Mathlib.Omega.{arith}
@@ -152,8 +152,8 @@ module _ (d : Disc) where
           → FullAt room gs (sector_shares (sectors_for x.length) x.length missing ++ extent_shares es (missing - x.length))
           (length (wanted d (within lost slots room gs (pick t (standing o (λ at. extent_feed (sectors_for x.length) at x.length missing f)) (stop Unsupported)))))
       by false o ih e a = not-room e
-      by true none ih e a = not-room e
-      by true (some at) ih e a = extent-tells (sectors_for x.length) at x.length missing f (extent_shares es) (held x.length) (next ih) lost slots room gs e a
+      by true None ih e a = not-room e
+      by true (Some at) ih e a = extent-tells (sectors_for x.length) at x.length missing f (extent_shares es) (held x.length) (next ih) lost slots room gs e a
 
   -- ---- the shares of what is answered add up to its bytes
 
@@ -241,5 +241,5 @@ module _ (d : Disc) where
           → length (arrived d (pick t (standing o (λ at. extent_feed (sectors_for x.length) at x.length missing f)) (stop Unsupported)))
           ≡ brought (sector_shares (sectors_for x.length) x.length missing ++ extent_shares es (missing - x.length))
       by false o ih e a = not-answered e
-      by true none ih e a = not-answered e
-      by true (some at) ih e a = extent-sums (sectors_for x.length) at x.length missing f (extent_shares es) (held x.length) (extent-none es) (next ih) e a
+      by true None ih e a = not-answered e
+      by true (Some at) ih e a = extent-sums (sectors_for x.length) at x.length missing f (extent_shares es) (held x.length) (extent-none es) (next ih) e a

@@ -1,9 +1,9 @@
 -- Laws of the extents that a file's read holds: those of the areas that are accepted. Assumes nothing.
+use Rattle.std.specs.Prelude.{Option, Some, None, Result, Ok, Err}
 use mathlib.Core.Path.{◌≡◌, refl, ap, sym, ◌∙◌}
 use mathlib.Core.Bool.{Bool, true, false, ◌&&◌}
 use mathlib.Core.List.{List, [], ◌∷◌, ◌++◌, append_assoc}
 use mathlib.Core.Logic.{⊎_elim}
-use mathlib.Core.Option.{Option, none, some}
 use Prim.Native.Nat.{ℕ, zero, suc, ◌+◌, ◌-◌, ◌<◌, ◌≤◌, min}
 use native.Mathlib.Nat.{zero-add}
 use native.Mathlib.Omega.{arith}
@@ -24,10 +24,6 @@ use Rattle.disc.proofs.RanLaws.{never}
 use Rattle.disc.proofs.ImageLaws.{split}
 use Rattle.records.specs.Bytes.{u32at}
 use Rattle.tags.specs.Tags.{read_tag, read_aed}
-use Rattle.tags.specs.declared.TagRead.{TagRead}
-use Rattle.tags.specs.declared.TagRead.TheVariants.{Read, Refused as NoTag}
-use Rattle.tags.specs.declared.AedRead.{AedRead}
-use Rattle.tags.specs.declared.AedRead.TheVariants.{Header, NoHeader}
 use Rattle.tags.proofs.HeadLaws.{aed-read}
 use Rattle.areas.specs.declared.AllocExtent.{AllocExtent}
 use Rattle.areas.specs.declared.AdContinuation.{AdContinuation}
@@ -42,6 +38,9 @@ use Rattle.chains.specs.Chains.{area_in, next_area, area_from}
 use Rattle.drives.specs.FileFeeds.{joined, area_said, named_by}
 use Rattle.drives.specs.Readings.{padded}
 use Rattle.drives.proofs.MomentLaws.{path_of}
+use Rattle.tags.specs.declared.DescriptorTag.{DescriptorTag}
+use Rattle.disc.specs.declared.refusals.Refusal.{Refusal}
+use Rattle.tags.specs.declared.AllocationExtentDescriptor.{AllocationExtentDescriptor}
 
 -- ---- a longer area names no fewer extents
 
@@ -105,13 +104,13 @@ area-grows kind s i a b h =
 
 -- ---- no front of a continuation's bytes names more extents than all of them
 
-said-least : (size : ℕ) (p : List ℕ) (g : TagRead) → area_said size p g ≤ u32at p 20
-said-least size p (Read t) = by (eqb t.id 258 && leb (24 + u32at p 20) size)
+said-least : (size : ℕ) (p : List ℕ) (g : Result DescriptorTag Refusal) → area_said size p g ≤ u32at p 20
+said-least size p (Ok t) = by (eqb t.id 258 && leb (24 + u32at p 20) size)
   where
     by : (b : Bool) → pick b (u32at p 20) 0 ≤ u32at p 20
     by true = omega arith
     by false = omega arith
-said-least size p (NoTag r) = omega arith
+said-least size p (Err r) = omega arith
 
 -- the area that the bytes of a continuation say
 abbrev pub whole_area : ℕ → List ℕ → Area
@@ -177,10 +176,10 @@ path-sectors d (suc n) at s e = by (d at) e (λ x q. path-sectors d n (at + 1) x
         (λ x q r. ap (λ y. b ++ y) (path-then d (sectors n (at + 1)) (λ y. done (b ++ y)) (λ y. refl) ∙ ih x q) ∙ (let z : b ++ x ≡ s = cc in z))
     by lacks e ih = never e
 
-area-none : (d : Disc) (kind size : ℕ) (s : List ℕ) (h : AedRead) → path_of d (area_in kind size s h) ≡ []
+area-none : (d : Disc) (kind size : ℕ) (s : List ℕ) (h : Result AllocationExtentDescriptor Refusal) → path_of d (area_in kind size s h) ≡ []
 unfolding path_of
-area-none d kind size s (NoHeader r) = refl
-area-none d kind size s (Header t) = by (ltb size (24 + t.length_of_allocation_descriptors))
+area-none d kind size s (Err r) = refl
+area-none d kind size s (Ok t) = by (ltb size (24 + t.length_of_allocation_descriptors))
   where
     by : (b : Bool) → path_of d (pick b (refuse Malformed) (done (area_at kind s 24 t.length_of_allocation_descriptors))) ≡ []
     by true = refl
@@ -190,9 +189,9 @@ area-whole : (d : Disc) (check : Bool) (kind size : ℕ) (s : List ℕ) (x : Are
 unfolding outcome
 area-whole d check kind size s x e = by (read_aed check s) refl e
   where
-    by : (h : AedRead) → read_aed check s ≡ h → outcome d (area_in kind size s h) ≡ answered x → x ≡ whole_area kind s
-    by (NoHeader r) g e = never e
-    by (Header t) g e = told (ltb size (24 + t.length_of_allocation_descriptors)) e
+    by : (h : Result AllocationExtentDescriptor Refusal) → read_aed check s ≡ h → outcome d (area_in kind size s h) ≡ answered x → x ≡ whole_area kind s
+    by (Err r) g e = never e
+    by (Ok t) g e = told (ltb size (24 + t.length_of_allocation_descriptors)) e
       where
         told : (b : Bool) → outcome d (pick b (refuse Malformed) (done (area_at kind s 24 t.length_of_allocation_descriptors))) ≡ answered x → x ≡ whole_area kind s
         told true e = never e
@@ -210,10 +209,10 @@ next-whole d m kind a x e = by (placed m a.partition_ref a.block.0) (ltb a.lengt
     by : (o : Option ℕ) (short long : Bool)
         → outcome d (placing o (λ at. pick short (refuse Malformed) (pick long (refuse Unsupported) (then (sectors (sectors_for a.length) at) area)))) ≡ answered x
         → x ≡ whole_area kind (path_of d (placing o (λ at. pick short (refuse Malformed) (pick long (refuse Unsupported) (then (sectors (sectors_for a.length) at) area)))))
-    by none short long e = never e
-    by (some at) true long e = never e
-    by (some at) false true e = never e
-    by (some at) false false e =
+    by None short long e = never e
+    by (Some at) true long e = never e
+    by (Some at) false true e = never e
+    by (Some at) false false e =
         then-answered (outcome d (sectors (sectors_for a.length) at)) (λ s. outcome d (area s)) (sym (outcome-then d (sectors (sectors_for a.length) at) area) ∙ e)
         (x ≡ whole_area kind (path_of d (then (sectors (sectors_for a.length) at) area)))
         (λ s q r.

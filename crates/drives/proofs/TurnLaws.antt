@@ -1,8 +1,8 @@
 -- Laws of a read that is fed: each state that the code makes stands for what is left of the feed. Assumes nothing.
+use Rattle.std.specs.Prelude.{Option, Some, None}
 use mathlib.Core.Path.{◌≡◌, refl, ap, sym, ◌∙◌}
 use mathlib.Core.Bool.{Bool, true, false}
 use mathlib.Core.List.{List, [], ◌∷◌, map}
-use mathlib.Core.Option.{none, some}
 use Prim.Native.Nat.{ℕ, zero, suc, ◌+◌, ◌-◌, ◌*◌, ◌/◌, ◌<◌, ◌≤◌, ◌^◌, min}
 use native.Mathlib.Numerals.{add-one}
 use native.Mathlib.Omega.{arith}
@@ -17,9 +17,6 @@ use Rattle.disc.specs.Images.{sectors, sectors_for}
 use Rattle.disc.specs.Places.{placed, BlockStands}
 use Rattle.disc.specs.declared.places.Mount.{Mount}
 use Rattle.disc.specs.declared.places.Sector.{Sector}
-use Rattle.disc.specs.declared.places.PartitionRef.{PartitionRef}
-use Rattle.disc.specs.declared.places.Placed.{Placed}
-use Rattle.disc.specs.declared.places.Placed.TheVariants.{At, Nowhere}
 use Rattle.disc.specs.declared.refusals.Refusal.{Refusal}
 use Rattle.disc.specs.declared.refusals.Refusal.TheVariants.{Malformed, Unsupported, NoSlot}
 use Rattle.disc.proofs.RefusalLaws.{refusal-numbered, refusal-known}
@@ -37,7 +34,6 @@ use Rattle.drives.specs.Readings.{reference_in, extent_in, extents_in, ending_of
 use Rattle.drives.specs.Inner.Turns.{Ends, quiet, ReadingStands, extents_behind, Enters, EntersAt, continuing, next_of, Chains, ContinuesAt}
 use Rattle.drives.specs.declared.scans.Scan.{Scan}
 use Rattle.drives.specs.declared.readings.Reading.{Reading}
-use Rattle.drives.specs.declared.turns.ExtentTurn.{ExtentTurn}
 
 -- ---- an end
 
@@ -114,56 +110,41 @@ sectors-some (suc n) h e = omega arith
 sectors-low : (size at n : ℕ) → size < 2 ^ 32 → at < 2 ^ 33 → n ≡ sectors_for size → at + (n - 1) < most_sectors
 sectors-low size at n h l e = omega arith
 
-module _ (r : Reading) (at size next : ℕ) (e : ExtentTurn) where
-  pub at_done : {x : Reading} → size ≡ 0 → r.missing ≡ 0 → Ends r 0 x → (e.skips ≡ false) × (e.reading ≡ x) → EntersAt r at size next e
+module _ (r : Reading) (at size next : ℕ) where
+  pub at_done : {x : Reading} → size ≡ 0 → r.missing ≡ 0 → Ends r 0 x → EntersAt r at size next (Some x)
   unfolding extent_feed settled_in
-  at_done {x} z m p g = record {
-    passes = λ t. not-both (sym g.0 ∙ t);
-    misses = λ t. not-both (sym g.0 ∙ t);
-    stands = λ t row. rw g.1 (stands-done row _ r x p (λ room. rw (z, m)));
-  }
+  at_done {x} z m p row = stands-done row _ r x p (λ room. rw (z, m))
 
-  pub at_some : (size ≡ 0 → ⊥) → size < 2 ^ 32 → at < 2 ^ 33 → {n : ℕ} → n ≡ sectors_for size → (e.skips ≡ false) × (e.reading ≡ in_extent r at (n - 1) size next) → EntersAt r at size next e
-  at_some z h l {n} q g = record {
-    passes = λ t. not-both (sym g.0 ∙ t);
-    misses = λ t. not-both (sym g.0 ∙ t);
-    stands = λ t row.
-        let k : suc (n - 1) ≡ sectors_for size = one_less n (λ y. sectors-some size z (sym q ∙ y)) ∙ q in
-        rw g.1 (rw k at (extent-stands r at (n - 1) size next (sectors-low size at n h l q) row));
-  }
+  pub at_some : {x : Reading} → (size ≡ 0 → ⊥) → size < 2 ^ 32 → at < 2 ^ 33 → {n : ℕ} → n ≡ sectors_for size → x ≡ in_extent r at (n - 1) size next → EntersAt r at size next (Some x)
+  at_some z h l {n} q g row =
+      let k : suc (n - 1) ≡ sectors_for size = one_less n (λ y. sectors-some size z (sym q ∙ y)) ∙ q in
+      rw g (rw k at (extent-stands r at (n - 1) size next (sectors-low size at n h l q) row))
 
-pub at-skips : (r : Reading) (at size next : ℕ) → size ≡ 0 → (r.missing ≡ 0 → ⊥) → EntersAt r at size next (record { skips = true; reading = r })
-unfolding extent_feed
-at-skips r at size next z h = record { passes = λ t f. rw z; misses = λ t. h; stands = λ t. not-both (sym t) }
+  pub at-skips : size ≡ 0 → (r.missing ≡ 0 → ⊥) → EntersAt r at size next None
+  unfolding extent_feed
+  at-skips z h = record { passes = λ f. rw z; misses = h }
 
-module _ (r : Reading) (w : List ℕ) (next : ℕ) (e : ExtentTurn) where
-  stopped : {x : Reading} → ((es : List AllocExtent) → extents_feed r.mount (extent_in w ∷ es) r.missing ≡ stop Unsupported) → Ends r 4 x
-      → (e.skips ≡ false) × (e.reading ≡ x) → Enters r w next e
+module _ (r : Reading) (w : List ℕ) (next : ℕ) where
+  stopped : {x : Reading} → ((es : List AllocExtent) → extents_feed r.mount (extent_in w ∷ es) r.missing ≡ stop Unsupported) → Ends r 4 x → Enters r w next (Some x)
   unfolding settled_in
-  stopped {x} h p g = record {
-    passes = λ t. not-both (sym g.0 ∙ t);
-    stands = λ t row. rw (g.1, h (drop next (extents_in row r.scan.listed))) (stands-stop row (stop Unsupported) r x Unsupported p (λ room. refl));
-  }
+  stopped {x} h p row = rw (h (drop next (extents_in row r.scan.listed))) (stands-stop row (stop Unsupported) r x Unsupported p (λ room. refl))
 
-  pub enter-type : {x : Reading} → (get_or w 1 0 ≡ 0 → ⊥) → Ends r 4 x → (e.skips ≡ false) × (e.reading ≡ x) → Enters r w next e
+  pub enter-type : {x : Reading} → (get_or w 1 0 ≡ 0 → ⊥) → Ends r 4 x → Enters r w next (Some x)
   unfolding extents_feed
-  enter-type z p g = stopped (λ es. rw (ne_eqb (get_or w 1 0) 0 z)) p g
+  enter-type z p = stopped (λ es. rw (ne_eqb (get_or w 1 0) 0 z)) p
 
-  module _ (z : get_or w 1 0 ≡ 0) {f : PartitionRef} (y : f ≡ reference_in (get_or w 3 0)) {p : Placed} (q : BlockStands r.mount f (get_or w 2 0) p) where
-    pub enter-nowhere : {x : Reading} → p ≡ Nowhere → Ends r 4 x → (e.skips ≡ false) × (e.reading ≡ x) → Enters r w next e
+  module _ (z : get_or w 1 0 ≡ 0) {f : Option ℕ} (y : f ≡ reference_in (get_or w 3 0)) {p : Option Sector} (q : BlockStands r.mount f (get_or w 2 0) p) where
+    pub enter-nowhere : {x : Reading} → p ≡ None → Ends r 4 x → Enters r w next (Some x)
     unfolding extents_feed
-    enter-nowhere h k g =
-        let d : placed r.mount (reference_in (get_or w 3 0)) (get_or w 2 0) ≡ none = rw y at (stands-nowhere r.mount f (get_or w 2 0) q h) in
-        stopped (λ es. rw (z, d)) k g
+    enter-nowhere h k =
+        let d : placed r.mount (reference_in (get_or w 3 0)) (get_or w 2 0) ≡ None = rw y at (stands-nowhere r.mount f (get_or w 2 0) q h) in
+        stopped (λ es. rw (z, d)) k
 
-    pub enter-there : {s : Sector} → p ≡ At s → EntersAt r s.0 (get_or w 0 0) next e → Enters r w next e
+    pub enter-there : {s : Sector} → p ≡ Some s → (e : Option Reading) → EntersAt r s.0 (get_or w 0 0) next e → Enters r w next e
     unfolding extents_feed
-    enter-there {s} h k = record {
-      passes = λ t es. rw (z, d) (k.passes t (λ left. pick (leb left 0) over (extents_feed r.mount es left)) ∙ rw (lt-leb r.missing 0 (some-missing (k.misses t))));
-      stands = λ t row. rw (z, d) (k.stands t row);
-    }
+    enter-there {s} h e k = by e k
       where
-        d : placed r.mount (reference_in (get_or w 3 0)) (get_or w 2 0) ≡ some s.0
+        d : placed r.mount (reference_in (get_or w 3 0)) (get_or w 2 0) ≡ Some s.0
         d = rw y at (stands_at r.mount f (get_or w 2 0) q h)
 
         some-missing : (r.missing ≡ 0 → ⊥) → 0 < r.missing
@@ -172,6 +153,10 @@ module _ (r : Reading) (w : List ℕ) (next : ℕ) (e : ExtentTurn) where
             by : (n : ℕ) → (n ≡ 0 → ⊥) → 0 < n
             by zero g = absurd (g refl)
             by (suc n) g = omega arith
+
+        by : (e : Option Reading) → EntersAt r s.0 (get_or w 0 0) next e → Enters r w next e
+        by None k = λ es. rw (z, d) (k.passes (λ left. pick (leb left 0) over (extents_feed r.mount es left)) ∙ rw (lt-leb r.missing 0 (some-missing k.misses)))
+        by (Some x) k = λ row. rw (z, d) (k row)
 
 -- ---- the extents in turn
 
@@ -196,12 +181,16 @@ module _ (r : Reading) (row : List (List ℕ)) (from : ℕ) where
         let l = extents-long row r.scan.listed in
         rw (add-one, drop-cons (extents_in row r.scan.listed) i (extent_in d) (omega arith), get_or-map extent_in (take r.scan.listed row) i d, get_or-take r.scan.listed row i d (omega arith))
 
-    pub seeks-on : (d : List ℕ) (e : ExtentTurn) → i < n → Enters r (get_or row i d) (i + 1) e → e.skips ≡ true → Seeks r row from (i + 1)
-    seeks-on d e h k t = record { same = sym (k.passes t (drop (i + 1) (extents_in row r.scan.listed))) ∙ rw (here d h) at p.same }
+    module _ (d : List ℕ) {e : Option Reading} (h : i < n) (k : Enters r (get_or row i d) (i + 1) e) where
+      pub seeks-on : e ≡ None → Seeks r row from (i + 1)
+      seeks-on t =
+          let g : Enters r (get_or row i d) (i + 1) None = rw t at k in
+          record { same = sym (g (drop (i + 1) (extents_in row r.scan.listed))) ∙ rw (here d h) at p.same }
 
-    pub seeks-found : (d : List ℕ) (e : ExtentTurn) → i < n → Enters r (get_or row i d) (i + 1) e → e.skips ≡ false
-        → ReadingStands row (extents_feed r.mount (drop from (extents_in row r.scan.listed)) r.missing) r e.reading
-    seeks-found d e h k t = rw (← p.same, here d h) (k.stands t row)
+      pub seeks-found : {x : Reading} → e ≡ Some x → ReadingStands row (extents_feed r.mount (drop from (extents_in row r.scan.listed)) r.missing) r x
+      seeks-found {x} t =
+          let g : Enters r (get_or row i d) (i + 1) (Some x) = rw t at k in
+          rw (← p.same, here d h) (g row)
 
     pub seeks-ends : (x : Reading) → n ≤ i → Ends r 0 x → ReadingStands row (extents_feed r.mount (drop from (extents_in row r.scan.listed)) r.missing) r x
     unfolding extents_feed settled_in
@@ -271,20 +260,20 @@ module _ (r x : Reading) where
   unfolding settled_in
   chain-none z e = record { stands = λ row. stands-stop row _ r x Malformed e (λ room. rw z) }
 
-  module _ (z : r.hops ≡ 0 → ⊥) {f : PartitionRef} (y : f ≡ reference_in r.scan.next_reference) {p : Placed} (q : BlockStands r.mount f r.scan.next_block p) where
-    pub chain-nowhere : p ≡ Nowhere → Ends r 4 x → Chains r x
+  module _ (z : r.hops ≡ 0 → ⊥) {f : Option ℕ} (y : f ≡ reference_in r.scan.next_reference) {p : Option Sector} (q : BlockStands r.mount f r.scan.next_block p) where
+    pub chain-nowhere : p ≡ None → Ends r 4 x → Chains r x
     unfolding next_area naming settled_in
     chain-nowhere h e = record {
       stands = λ row.
-          let d : placed r.mount (reference_in r.scan.next_reference) r.scan.next_block ≡ none = rw y at (stands-nowhere r.mount f r.scan.next_block q h) in
+          let d : placed r.mount (reference_in r.scan.next_reference) r.scan.next_block ≡ None = rw y at (stands-nowhere r.mount f r.scan.next_block q h) in
           rw (continuing-some r.mount r.kind r.hops r.missing (extents_in row r.scan.listed) (next_of r.scan) z, d) (stands-stop row (stop Unsupported) r x Unsupported e (λ room. refl));
     }
 
-    pub chain-there : {s : Sector} → p ≡ At s → ContinuesAt r s.0 r.scan.next_length x → Chains r x
+    pub chain-there : {s : Sector} → p ≡ Some s → ContinuesAt r s.0 r.scan.next_length x → Chains r x
     unfolding next_area
     chain-there {s} h k = record {
       stands = λ row.
-          let d : placed r.mount (reference_in r.scan.next_reference) r.scan.next_block ≡ some s.0 = rw y at (stands_at r.mount f r.scan.next_block q h) in
+          let d : placed r.mount (reference_in r.scan.next_reference) r.scan.next_block ≡ Some s.0 = rw y at (stands_at r.mount f r.scan.next_block q h) in
           rw (continuing-some r.mount r.kind r.hops r.missing (extents_in row r.scan.listed) (next_of r.scan) z, d) (k.stands row);
     }
 

@@ -1,6 +1,5 @@
 -- Every field of the state in which an opening and a read begin. RULES 14.1 to 14.5.
-use Rattle.std.specs.Prelude.{ℕ, false, replicate, eqb}
-use Rattle.std.proofs.Math.Option.{Option, none, some}
+use Rattle.std.specs.Prelude.{ℕ, false, replicate, eqb, Option, Some, None}
 use Rattle.disc.specs.Choice.{pick}
 use Rattle.disc.specs.Places.{icb_placed}
 use Rattle.disc.specs.declared.places.Mount.{Mount}
@@ -66,8 +65,8 @@ ended_with r number = record {
 
 -- before the file entry, where it stands on this volume; an entry that stands nowhere is 4
 abbrev pub at_entry_sector : Mount → Option ℕ → Reading
-at_entry_sector m none = ended_with (wants_entry m 0) 4
-at_entry_sector m (some at) = wants_entry m at
+at_entry_sector m None = ended_with (wants_entry m 0) 4
+at_entry_sector m (Some at) = wants_entry m at
 
 -- an ICB without a length is 2
 unfoldable pub start_of : Mount → LongAd → Reading

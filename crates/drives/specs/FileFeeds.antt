@@ -1,7 +1,6 @@
 -- Reading a file as a feed: each sector's bytes reach the output as it arrives, and extents are held from the area that names them on. RULES 6.15
 -- to 6.18, 7.1 to 7.9, 14.4 to 14.8. That this is the read of `files`, its bytes collected, is proved (proofs/FeedLaws.antt).
-use Rattle.std.specs.Prelude.{ℕ, zero, suc, ◌+◌, ◌-◌, min, ◌&&◌, List, [], ◌∷◌, ◌++◌, length, take, eqb, leb}
-use Rattle.std.proofs.Math.Option.{Option, none, some}
+use Rattle.std.specs.Prelude.{ℕ, zero, suc, ◌+◌, ◌-◌, min, ◌&&◌, List, [], ◌∷◌, ◌++◌, length, take, eqb, leb, Option, Some, None, Result, Ok, Err}
 use Rattle.disc.specs.Choice.{pick}
 use Rattle.disc.specs.Images.{sectors_for}
 use Rattle.disc.specs.Places.{placed}
@@ -9,8 +8,6 @@ use Rattle.disc.specs.declared.places.Mount.{Mount}
 use Rattle.disc.specs.declared.refusals.Refusal.TheVariants.{Malformed, Unsupported}
 use Rattle.records.specs.Bytes.{u32at}
 use Rattle.tags.specs.Tags.{read_tag}
-use Rattle.tags.specs.declared.TagRead.{TagRead}
-use Rattle.tags.specs.declared.TagRead.TheVariants.{Read, Refused as NoTag}
 use Rattle.records.specs.declared.allocations.LongAd.{LongAd}
 use Rattle.areas.specs.declared.AllocExtent.{AllocExtent}
 use Rattle.areas.specs.declared.AdEnding.{AdEnding}
@@ -20,6 +17,8 @@ use Rattle.chains.specs.Chains.{most_continuations, next_area}
 use Rattle.files.specs.Files.{Located, entry_at, entry_mount, is_embedded, embedded_bytes}
 use Rattle.drives.specs.Feeds.{Feed, following, naming}
 use Rattle.drives.specs.Feeds.Feed.{over, stop, hold, put, want}
+use Rattle.tags.specs.declared.DescriptorTag.{DescriptorTag}
+use Rattle.disc.specs.declared.refusals.Refusal.{Refusal}
 
 -- ---- the extents
 
@@ -34,8 +33,8 @@ extent_feed (suc n) at size missing f =
 
 -- what stands nowhere on this volume is 4
 abbrev pub standing : Option ℕ → (ℕ → Feed) → Feed
-standing none f = stop Unsupported
-standing (some s) f = f s
+standing None f = stop Unsupported
+standing (Some s) f = f s
 
 -- extents in turn; the read is over as soon as no byte is missing
 unfoldable pub extents_feed : Mount → List AllocExtent → ℕ → Feed
@@ -59,9 +58,9 @@ abbrev pub joined : List AllocExtent → Area → List AllocExtent
 joined es x = es ++ x.extents
 
 -- how many bytes the area of a continuation of `size` bytes has, by the tag at its front (4/14.5): none where that is no header, or the area doesn't fit
-abbrev pub area_said : ℕ → List ℕ → TagRead → ℕ
-area_said size s (Read t) = pick (eqb t.id 258 && leb (24 + u32at s 20) size) (u32at s 20) 0
-area_said size s (NoTag r) = 0
+abbrev pub area_said : ℕ → List ℕ → Result DescriptorTag Refusal → ℕ
+area_said size s (Ok t) = pick (eqb t.id 258 && leb (24 + u32at s 20) size) (u32at s 20) 0
+area_said size s (Err r) = 0
 
 -- how many extents there are in all once the bytes s of a continuation have come: `es`, and those that its area names so far
 abbrev pub named_by : ℕ → ℕ → List AllocExtent → List ℕ → ℕ

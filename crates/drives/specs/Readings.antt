@@ -1,14 +1,12 @@
 -- A file's read, fed a sector at a time: the place in its feed that a state stands for with the row in which its extents wait, and a step.
 -- RULES 6 and 7, 14.1 to 14.9.
-use Rattle.std.specs.Prelude.{ℕ, suc, ◌+◌, ◌-◌, ◌*◌, ◌≤◌, ◌≡◌, Bool, true, false, not, ◌&&◌, List, ◌++◌, map, length, get_or, take, drop, replicate, eqb, ltb, leb}
+use Rattle.std.specs.Prelude.{ℕ, suc, ◌+◌, ◌-◌, ◌*◌, ◌≤◌, ◌≡◌, Bool, true, false, not, ◌&&◌, List, ◌++◌, map, length, get_or, take, drop, replicate, eqb, ltb, leb, Option, Some, None}
 use Rattle.disc.specs.Choice.{pick}
 use Rattle.disc.specs.Counts.{reported}
 use Rattle.disc.specs.Refusals.{number, refusal_of}
 use Rattle.disc.specs.Ask.{then}
 use Rattle.disc.specs.Images.{sectors}
 use Rattle.disc.specs.Places.{is_checked}
-use Rattle.disc.specs.declared.places.PartitionRef.{PartitionRef}
-use Rattle.disc.specs.declared.places.PartitionRef.TheVariants.{Unnamed, Named}
 use Rattle.disc.specs.declared.refusals.Refusal.TheVariants.{Malformed, Unsupported, BadCrc}
 use Rattle.crcs.specs.Crcs.{crc_from}
 use Rattle.tags.specs.Tags.{read_aed}
@@ -28,8 +26,8 @@ use Rattle.drives.specs.declared.readings.Reading.{Reading}
 
 -- ---- the row in which extents wait (RULES 7.15)
 
-abbrev pub reference_in : ℕ → PartitionRef
-reference_in n = pick (ltb n 65536) (Named n) Unnamed
+abbrev pub reference_in : ℕ → Option ℕ
+reference_in n = pick (ltb n 65536) (Some n) None
 
 -- effective length, type, block, and reference or 65,536
 abbrev pub extent_in : List ℕ → AllocExtent

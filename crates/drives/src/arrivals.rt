@@ -7,8 +7,7 @@ use crate::phases::IN_EXTENT;
 use crate::readings::Reading;
 use crate::turns::{find_extent, over};
 use disc::answers::{DONE, NO_ROOM};
-use disc::counts::lesser;
-use disc::moves::{copy, least};
+use disc::moves::copy;
 
 // Puts bytes behind those that were filled, as many as there is room for: how many that is.
 pub(crate) fn put(bytes: &[u8], out: &mut [u8], filled: usize) -> usize
@@ -20,7 +19,7 @@ pub(crate) fn put(bytes: &[u8], out: &mut [u8], filled: usize) -> usize
     }
     let room = out.len() - filled;
     copy(bytes, &mut out[filled..]);
-    least(bytes.len(), room)
+    bytes.len().min(room)
 }
 
 // n bytes have reached the output, and that many fewer are missing.
@@ -59,8 +58,8 @@ pub(crate) fn take_extent(r: Reading, sector: &[u8], row: &[[u32; 4]], out: &mut
     requires { (length sector.now ≡ 2048) × (r.at + r.left < 0x1000_0000_0000) }
     ensures { Arrives (extent_behind r row.now sector.now) r out.old row.now row.now result out.new }
 {
-    let here = lesser(r.size as u64, 2048);
-    let n = lesser(r.missing, here) as usize;
+    let here = (r.size as u64).min(2048);
+    let n = r.missing.min(here) as usize;
     let k = put(&sector[0..n], out, r.length);
     let x = filled_by(r, k);
     if k < n {

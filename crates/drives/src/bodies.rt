@@ -12,9 +12,9 @@ use crate::scans::{Scan, begin, take_bytes};
 use crate::turns::{accept, over};
 use crcs::crc_behind;
 use disc::answers::{BAD_CRC, DONE, MALFORMED};
-use disc::moves::least;
+use disc::refusals::Refusal;
 use records::bytes::le32;
-use tags::{AED_ID, DescriptorTag, TagRead};
+use tags::{AED_ID, DescriptorTag};
 
 // The bytes of a sector.
 const SECTOR: usize = 2048;
@@ -82,8 +82,8 @@ fn body_behind(b: Body, sector: &[u8]) -> Body
     requires { length sector.now ≡ 2048 }
     ensures { result ≡ body_behind b sector.now }
 {
-    let n = least(b.body_left as usize, SECTOR);
-    let m = least(b.area_left as usize, SECTOR);
+    let n = (b.body_left as usize).min(SECTOR);
+    let m = (b.area_left as usize).min(SECTOR);
     Body {
         tagged: b.tagged,
         headed: b.headed,
@@ -111,7 +111,7 @@ pub(crate) fn take_part(r: Reading, sector: &[u8], row: &mut [[u32; 4]]) -> Read
 {
     let scan = r.scan;
     let body = r.body;
-    let end = least(body.area_left as usize, SECTOR);
+    let end = (body.area_left as usize).min(SECTOR);
     let listed = take_bytes(r.kind, scan, &sector[0..end], row);
     let behind = body_behind(body, sector);
     let x = with_parts(r, listed, behind);
@@ -145,7 +145,7 @@ fn front_of(headed: bool, area: u32) -> usize
     if !headed {
         return 0;
     }
-    least(area as usize, 2024)
+    (area as usize).min(2024)
 }
 
 // The header's part of a body, of a tag that is good.
@@ -155,7 +155,7 @@ fn body_of(t: DescriptorTag, size: u32, sector: &[u8]) -> Body
 {
     let area = le32(sector, 20);
     let length = t.crc_length as usize;
-    let n = least(length, 2032);
+    let n = length.min(2032);
     let end = 16 + n;
     let headed = is_header(t, size, area);
     Body {
@@ -169,13 +169,13 @@ fn body_of(t: DescriptorTag, size: u32, sector: &[u8]) -> Body
 }
 
 // The same of any tag.
-fn body_in(r: TagRead, size: u32, sector: &[u8]) -> Body
+fn body_in(r: Result<DescriptorTag, Refusal>, size: u32, sector: &[u8]) -> Body
     requires { length sector.now ≡ 2048 }
     ensures { result ≡ body_in r size sector.now }
 {
     match r {
-        TagRead::Read(t) => body_of(t, size, sector),
-        TagRead::Refused(_) => Body {
+        Ok(t) => body_of(t, size, sector),
+        Err(_) => Body {
             tagged: false,
             headed: false,
             crc: 0,

@@ -12,8 +12,7 @@ use crate::readings::Reading;
 use crate::scans::{Scan, begin, take_bytes};
 use crate::turns::{accept, over};
 use disc::answers::{DONE, NO_ROOM};
-use disc::counts::lesser;
-use entries::file_entries::{EntryRead, FileEntry};
+use entries::file_entries::FileEntry;
 use files::resolves::{EMBEDDED, MOST_CONTINUATIONS};
 
 // Its descriptors are of this kind, and so many bytes are missing.
@@ -72,7 +71,7 @@ fn take_file(
 {
     let at = e.area_at;
     if e.kind == EMBEDDED {
-        let n = lesser(e.area_length as u64, e.information_length) as usize;
+        let n = (e.area_length as u64).min(e.information_length) as usize;
         let end = at + n;
         return take_embedded(r, &sector[at..end], out);
     }
@@ -86,7 +85,7 @@ pub(crate) fn take_entry(r: Reading, sector: &[u8], row: &mut [[u32; 4]], out: &
 {
     let mount = r.mount;
     match FileEntry::parse(mount.is_checked(), sector) {
-        EntryRead::Refused(why) => over(r, why.number()),
-        EntryRead::Read(e) => take_file(r, e, sector, row, out),
+        Err(why) => over(r, why.number()),
+        Ok(e) => take_file(r, e, sector, row, out),
     }
 }

@@ -6,13 +6,14 @@ ghost use Rattle.volumes.specs.Openings.{usual, opening, anchored, no_volume};
 ghost use Rattle.drives.specs.Openings.{opening_over, is_wanting, wanted_sector, mounting_from, scanning, behind_sector, behind_wanted, Fed, OpeningStands};
 ghost use Rattle.drives.specs.Beginnings.{at_anchor};
 
-use descriptors::anchors::{AnchorRead, AnchorVolumeDescriptorPointer};
+use descriptors::anchors::AnchorVolumeDescriptorPointer;
 use disc::answers::{DONE, IO, UNSUPPORTED};
 use disc::counts::add_counts;
-use disc::places::{Block, PartitionRef, Placed};
+use disc::places::Block;
+use disc::refusals::Refusal;
 use volumes::mounts::plain_mount;
 use volumes::openings::{How, Opened, kept_answer, refused, volume_in};
-use volumes::sequences::{Kept, Wanted, nothing_kept, take_sector};
+use volumes::sequences::{Kept, SectorTurn, Wanted, nothing_kept, take_sector};
 
 // The anchor stands in this sector.
 const ANCHOR: u64 = 256;
@@ -77,15 +78,14 @@ fn over(opened: Opened) -> Opening
 fn behind_sequence(kept: Kept, count: u64) -> Opening
     ensures { OpeningStands (mounting_from kept) count result }
 {
-    let answer = kept_answer(kept);
-    if answer != DONE {
-        return over(refused(answer, count));
+    if let Err(why) = kept_answer(kept) {
+        return over(refused(why.number(), count));
     }
     let place = kept.file_set.location;
     let mount = plain_mount(false, kept);
-    match mount.placed(PartitionRef::Named(place.partition_ref), Block(place.block)) {
-        Placed::Nowhere => over(refused(UNSUPPORTED, count)),
-        Placed::At(sector) => wanting(WANTS_FILE_SET, sector.0, 0, kept, count),
+    match mount.placed(Some(place.partition_ref), Block(place.block)) {
+        None => over(refused(UNSUPPORTED, count)),
+        Some(sector) => wanting(WANTS_FILE_SET, sector.0, 0, kept, count),
     }
 }
 
@@ -101,12 +101,12 @@ fn begin_sequence(first: u32, n: u32, count: u64) -> Opening
 }
 
 // Behind the anchor: its main sequence.
-fn behind_anchor(anchor: AnchorRead, count: u64) -> Opening
+fn behind_anchor(anchor: Result<AnchorVolumeDescriptorPointer, Refusal>, count: u64) -> Opening
     ensures { OpeningStands (anchored usual anchor) count result }
 {
     match anchor {
-        AnchorRead::Refused(why) => over(refused(why.number(), count)),
-        AnchorRead::Read(a) => {
+        Err(why) => over(refused(why.number(), count)),
+        Ok(a) => {
             let main = a.main_volume_descriptor_sequence;
             begin_sequence(main.location, main.length / 2048, count)
         }
@@ -118,18 +118,16 @@ fn behind_sector(kept: Kept, at: u64, left: u32, b: &[u8], count: u64) -> Openin
     requires { at + left < 0x1000_0000_0000 }
     ensures { OpeningStands (behind_sector kept left at b.now) count result }
 {
-    let turn = take_sector(How::usual(), Wanted::Any, kept, b);
-    let next = turn.kept;
-    if turn.going {
-        if left == 0 {
-            return behind_sequence(next, count);
+    match take_sector(How::usual(), Wanted::Any, kept, b) {
+        SectorTurn::GoesOn(next) => {
+            if left == 0 {
+                return behind_sequence(next, count);
+            }
+            wanting(WANTS_SEQUENCE, at + 1, left - 1, next, count)
         }
-        return wanting(WANTS_SEQUENCE, at + 1, left - 1, next, count);
+        SectorTurn::Over(next) => behind_sequence(next, count),
+        SectorTurn::Fails(why) => over(refused(why.number(), count)),
     }
-    if turn.answer != DONE {
-        return over(refused(turn.answer, count));
-    }
-    behind_sequence(next, count)
 }
 
 impl Opening {

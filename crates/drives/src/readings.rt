@@ -17,7 +17,7 @@ use crate::turns::over;
 use areas::size_of;
 use disc::answers::{DONE, IO, MALFORMED, UNSUPPORTED};
 use disc::counts::add_counts;
-use disc::places::{Block, Mount, Placed};
+use disc::places::{Block, Mount};
 use records::allocations::LongAd;
 use volumes::openings::VolumeRecord;
 
@@ -100,11 +100,7 @@ fn before(mount: Mount, at: u64) -> Reading
 fn clear_row(row: &mut [[u32; 4]])
     ensures { row.new ≡ zeroed row.old }
 {
-    let mut i = 0;
-    while i < row.len() {
-        row[i] = [0; 4];
-        i += 1;
-    }
+    row.fill([0; 4]);
 }
 
 // Zeroes the row of a read that has ended.
@@ -176,8 +172,8 @@ impl Reading {
             return over(before(of_entry, 0), MALFORMED);
         }
         match mount.icb_placed(place.partition_ref, Block(place.block)) {
-            Placed::Nowhere => over(before(of_entry, 0), UNSUPPORTED),
-            Placed::At(sector) => before(of_entry, sector.0),
+            None => over(before(of_entry, 0), UNSUPPORTED),
+            Some(sector) => before(of_entry, sector.0),
         }
     }
 

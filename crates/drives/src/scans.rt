@@ -5,7 +5,6 @@ ghost use Rattle.drives.specs.Readings.{reference_in, extent_in};
 ghost use Rattle.drives.specs.Inner.Scans.{begun, Stores, Closes, Continues, Whole, Scans};
 
 use areas::{AdContinuation, AdCursor, AdStep, AllocExtent, next_ad, size_of};
-use disc::places::PartitionRef;
 
 // A place in an area.
 #[repr(C)]
@@ -27,22 +26,22 @@ pub struct Scan {
 }
 
 // The reference of a number of the row.
-pub(crate) fn reference_in(n: u32) -> PartitionRef
+pub(crate) fn reference_in(n: u32) -> Option<u16>
     ensures { result ≡ reference_in n }
 {
     if n < 65536 {
-        return PartitionRef::Named(n as u16);
+        return Some(n as u16);
     }
-    PartitionRef::Unnamed
+    None
 }
 
 // The number of a reference, which comes back from it.
-fn number_in(r: PartitionRef) -> u32
+fn number_in(r: Option<u16>) -> u32
     ensures { reference_in result ≡ r }
 {
     match r {
-        PartitionRef::Unnamed => 65536,
-        PartitionRef::Named(p) => p as u32,
+        None => 65536,
+        Some(p) => p as u32,
     }
 }
 
@@ -158,10 +157,8 @@ pub(crate) fn take_bytes(kind: u8, first: Scan, bytes: &[u8], row: &mut [[u32; 4
     ensures { Scans kind row.old first bytes.now row.new result }
 {
     let mut s = first;
-    let mut i = 0;
-    while i < bytes.len() {
-        s = take_byte(kind, s, bytes[i], row);
-        i += 1;
+    for b in bytes {
+        s = take_byte(kind, s, *b, row);
     }
     s
 }

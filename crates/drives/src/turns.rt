@@ -11,15 +11,7 @@ use crate::scans::reference_in;
 use chains::continuations::{HEADER, LONGEST};
 use disc::answers::{DONE, MALFORMED, NO_SLOT, UNSUPPORTED};
 use disc::images::sectors_for;
-use disc::moves::least;
-use disc::places::{Block, Placed, Sector};
-
-// What is to be done about an extent: it is passed over, or the read goes on so.
-#[derive(Clone, Copy)]
-pub(crate) struct ExtentTurn {
-    pub skips: bool,
-    pub reading: Reading,
-}
+use disc::places::{Block, Sector};
 
 // The end.
 pub(crate) fn over(r: Reading, answer: u64) -> Reading
@@ -33,29 +25,16 @@ pub(crate) fn over(r: Reading, answer: u64) -> Reading
 
 // ---- the extents
 
-// The read goes on so.
-fn goes_on(reading: Reading) -> ExtentTurn
-    ensures { (result.skips ≡ false) × (result.reading ≡ reading) }
-{
-    ExtentTurn {
-        skips: false,
-        reading,
-    }
-}
-
-// An extent of `size` bytes from a sector on: one without a byte is passed over, unless no byte is missing.
-fn enter_at(r: Reading, first: Sector, size: u32, next: usize) -> ExtentTurn
+// An extent of `size` bytes from a sector on: one without a byte is passed over, unless no byte is missing. None: it is passed over.
+fn enter_at(r: Reading, first: Sector, size: u32, next: usize) -> Option<Reading>
     requires { first.0 < 2 ^ 33 }
     ensures { EntersAt r first.0 size next result }
 {
     if size == 0 {
         if r.missing == 0 {
-            return goes_on(over(r, DONE));
+            return Some(over(r, DONE));
         }
-        return ExtentTurn {
-            skips: true,
-            reading: r,
-        };
+        return None;
     }
     let mut x = r;
     x.phase = IN_EXTENT;
@@ -64,20 +43,20 @@ fn enter_at(r: Reading, first: Sector, size: u32, next: usize) -> ExtentTurn
     x.size = size;
     x.next = next;
     x.answer = DONE;
-    goes_on(x)
+    Some(x)
 }
 
 // An extent of the row: it is recorded, and stands on this volume.
-fn enter(r: Reading, w: [u32; 4], next: usize) -> ExtentTurn
+fn enter(r: Reading, w: [u32; 4], next: usize) -> Option<Reading>
     ensures { Enters r w next result }
 {
     if w[1] != 0 {
-        return goes_on(over(r, UNSUPPORTED));
+        return Some(over(r, UNSUPPORTED));
     }
     let mount = r.mount;
     match mount.placed(reference_in(w[3]), Block(w[2])) {
-        Placed::Nowhere => goes_on(over(r, UNSUPPORTED)),
-        Placed::At(first) => enter_at(r, first, w[0], next),
+        None => Some(over(r, UNSUPPORTED)),
+        Some(first) => enter_at(r, first, w[0], next),
     }
 }
 
@@ -85,14 +64,11 @@ fn enter(r: Reading, w: [u32; 4], next: usize) -> ExtentTurn
 pub(crate) fn find_extent(r: Reading, next: usize, row: &[[u32; 4]]) -> Reading
     ensures { ReadingStands row.now (extents_feed r.mount (drop next (extents_in row.now r.scan.listed)) r.missing) r result }
 {
-    let n = least(r.scan.listed, row.len());
-    let mut i = next;
-    while i < n {
-        let e = enter(r, row[i], i + 1);
-        if !e.skips {
-            return e.reading;
+    let n = r.scan.listed.min(row.len());
+    for i in next..n {
+        if let Some(x) = enter(r, row[i], i + 1) {
+            return x;
         }
-        i += 1;
     }
     over(r, DONE)
 }
@@ -130,8 +106,8 @@ fn continue_chain(r: Reading) -> Reading
     let s = r.scan;
     let mount = r.mount;
     match mount.placed(reference_in(s.next_reference), Block(s.next_block)) {
-        Placed::Nowhere => over(r, UNSUPPORTED),
-        Placed::At(first) => want_continuation(r, first, s.next_length),
+        None => over(r, UNSUPPORTED),
+        Some(first) => want_continuation(r, first, s.next_length),
     }
 }
 

@@ -1,14 +1,10 @@
 -- The answer number and the values of each enum answer: 0 and what was read, or the refusal's number and zeros. RULES 12.3.
-use Rattle.disc.specs.Refusals.{number}
-use Rattle.disc.specs.Replies.{Answer}
+use Rattle.std.specs.Prelude.{None, Result}
+use Rattle.disc.specs.Replies.{Answer, answer_from}
 use Rattle.tags.specs.Answers.{no_tag}
 use Rattle.entries.specs.declared.icb_tags.IcbTag.{IcbTag}
-use Rattle.entries.specs.declared.icb_tags.IcbTagRead.{IcbTagRead}
-use Rattle.entries.specs.declared.icb_tags.IcbTagRead.TheVariants.{Read as AnIcbTag, Refused as NoIcbTag}
-use Rattle.entries.specs.declared.file_entries.ObjectSize.TheVariants.{Absent}
 use Rattle.entries.specs.declared.file_entries.FileEntry.{FileEntry}
-use Rattle.entries.specs.declared.file_entries.EntryRead.{EntryRead}
-use Rattle.entries.specs.declared.file_entries.EntryRead.TheVariants.{Read as AnEntry, Refused as NoEntry}
+use Rattle.disc.specs.declared.refusals.Refusal.{Refusal}
 
 abbrev pub no_icb_tag : IcbTag
 no_icb_tag = record {
@@ -21,9 +17,8 @@ no_icb_tag = record {
   flags = 0;
 }
 
-abbrev pub icb_tag_answer : IcbTagRead → Answer IcbTag
-icb_tag_answer (AnIcbTag t) = record { number = 0; value = t }
-icb_tag_answer (NoIcbTag r) = record { number = number r; value = no_icb_tag }
+abbrev pub icb_tag_answer : Result IcbTag Refusal → Answer IcbTag
+icb_tag_answer = answer_from no_icb_tag
 
 abbrev pub no_entry : FileEntry
 no_entry = record {
@@ -38,7 +33,7 @@ no_entry = record {
   record_length = 0;
   information_length = 0;
   logical_blocks_recorded = 0;
-  object_size = Absent;
+  object_size = None;
   length_of_extended_attributes = 0;
   length_of_allocation_descriptors = 0;
   kind = 0;
@@ -46,6 +41,5 @@ no_entry = record {
   area_length = 0;
 }
 
-abbrev pub entry_answer : EntryRead → Answer FileEntry
-entry_answer (AnEntry e) = record { number = 0; value = e }
-entry_answer (NoEntry r) = record { number = number r; value = no_entry }
+abbrev pub entry_answer : Result FileEntry Refusal → Answer FileEntry
+entry_answer = answer_from no_entry

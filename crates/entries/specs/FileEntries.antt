@@ -1,26 +1,22 @@
 -- The entry of a file, plain (ECMA-167 4/14.9) or extended (4/14.17): RULES 6.3 to 6.8.
-use Rattle.std.specs.Prelude.{ℕ, ◌+◌, ◌%◌, Bool, List, length, eqb, ltb}
+use Rattle.std.specs.Prelude.{ℕ, ◌+◌, ◌%◌, Bool, List, length, eqb, ltb, Some, None, Result, Ok, Err}
 use Rattle.disc.specs.Choice.{pick}
 use Rattle.disc.specs.declared.refusals.Refusal.TheVariants.{Malformed}
 use Rattle.records.specs.Bytes.{byte, u16at, u32at, u64at}
 use Rattle.tags.specs.Tags.{read_head}
 use Rattle.tags.specs.declared.DescriptorTag.{DescriptorTag}
-use Rattle.tags.specs.declared.TagRead.{TagRead}
-use Rattle.tags.specs.declared.TagRead.TheVariants.{Read as ATag, Refused as NoTag}
 use Rattle.entries.specs.IcbTags.{icb_tag_of}
 use Rattle.entries.specs.declared.icb_tags.IcbTag.{IcbTag}
-use Rattle.entries.specs.declared.file_entries.ObjectSize.TheVariants.{Recorded, Absent}
 use Rattle.entries.specs.declared.file_entries.EntryTail.{EntryTail}
 use Rattle.entries.specs.declared.file_entries.FileEntry.{FileEntry}
-use Rattle.entries.specs.declared.file_entries.EntryRead.{EntryRead}
-use Rattle.entries.specs.declared.file_entries.EntryRead.TheVariants.{Read, Refused}
+use Rattle.disc.specs.declared.refusals.Refusal.{Refusal}
 
 -- the fields from 64 on of a plain entry (4/14.9.11 to 14.9.20) and of an extended one (4/14.17.11 to 14.17.24)
 unfoldable pub plain_tail : List ℕ → EntryTail
 plain_tail s = record {
   prefix = 176;
   logical_blocks_recorded = u64at s 64;
-  object_size = Absent;
+  object_size = None;
   attributes = u32at s 168;
   descriptors = u32at s 172;
 }
@@ -29,7 +25,7 @@ unfoldable pub extended_tail : List ℕ → EntryTail
 extended_tail s = record {
   prefix = 216;
   logical_blocks_recorded = u64at s 72;
-  object_size = Recorded (u64at s 64);
+  object_size = Some (u64at s 64);
   attributes = u32at s 208;
   descriptors = u32at s 212;
 }
@@ -61,30 +57,30 @@ entry_of s t i d = record {
 }
 
 -- the kind must be at most 3, and attributes and area must lie within the bytes given
-unfoldable pub entry_with : List ℕ → DescriptorTag → IcbTag → EntryTail → EntryRead
+unfoldable pub entry_with : List ℕ → DescriptorTag → IcbTag → EntryTail → Result FileEntry Refusal
 entry_with s t i d =
-    pick (ltb 3 (kind_of i)) (Refused Malformed)
-    (pick (ltb (length s) (d.prefix + d.attributes + d.descriptors)) (Refused Malformed)
-    (Read (entry_of s t i d)))
+    pick (ltb 3 (kind_of i)) (Err Malformed)
+    (pick (ltb (length s) (d.prefix + d.attributes + d.descriptors)) (Err Malformed)
+    (Ok (entry_of s t i d)))
 
 -- the id that an entry must have: 266 (extended) if that is recorded, otherwise 261 (plain)
 abbrev pub entry_id : List ℕ → ℕ
 entry_id s = pick (eqb (u16at s 0) 266) 266 261
 
 -- an extended entry has at least 216 bytes
-unfoldable pub entry_behind : List ℕ → DescriptorTag → EntryRead
+unfoldable pub entry_behind : List ℕ → DescriptorTag → Result FileEntry Refusal
 entry_behind s t =
     pick (eqb t.id 266)
-    (pick (ltb (length s) 216) (Refused Malformed) (entry_with s t (icb_tag_of s 16) (extended_tail s)))
+    (pick (ltb (length s) 216) (Err Malformed) (entry_with s t (icb_tag_of s 16) (extended_tail s)))
     (entry_with s t (icb_tag_of s 16) (plain_tail s))
 
 -- after the gate: its refusal, or the entry
-abbrev pub entry_after : List ℕ → TagRead → EntryRead
-entry_after s (NoTag r) = Refused r
-entry_after s (ATag t) = entry_behind s t
+abbrev pub entry_after : List ℕ → Result DescriptorTag Refusal → Result FileEntry Refusal
+entry_after s (Err r) = Err r
+entry_after s (Ok t) = entry_behind s t
 
 -- reading an entry at the front of s: at least 176 bytes
-unfoldable pub read_entry : Bool → List ℕ → EntryRead
+unfoldable pub read_entry : Bool → List ℕ → Result FileEntry Refusal
 read_entry check s = entry_after s (read_head check s (entry_id s) 176)
 
 -- file type 4 is a directory (4/14.6.6)

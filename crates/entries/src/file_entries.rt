@@ -5,8 +5,8 @@ ghost use Rattle.entries.specs.FileEntries.{plain_tail, extended_tail, entry_of,
 use crate::icb_tags::{IcbTag, icb_tag_at};
 use disc::refusals::Refusal;
 use records::bytes::{byte_at, le16, le32, le64};
+use tags::DescriptorTag;
 use tags::heads::read_head;
-use tags::{DescriptorTag, TagRead};
 
 // A plain entry, ECMA-167 4/14.9, and an extended one, 4/14.17. The sizes end where the attributes start.
 const PLAIN_ID: u16 = 261;
@@ -16,13 +16,6 @@ const PLAIN_SIZE: usize = 176;
 const EXTENDED_ID: u16 = 266;
 
 const EXTENDED_SIZE: usize = 216;
-
-// The object size: a plain entry has none.
-#[derive(Clone, Copy)]
-pub enum ObjectSize {
-    Recorded(u64),
-    Absent,
-}
 
 // `area_at` and `area_length` say where the area of allocation descriptors, or the embedded file, is in the bytes
 // given.
@@ -39,7 +32,7 @@ pub struct FileEntry {
     pub record_length: u32,
     pub information_length: u64,
     pub logical_blocks_recorded: u64,
-    pub object_size: ObjectSize,
+    pub object_size: Option<u64>,
     pub length_of_extended_attributes: u32,
     pub length_of_allocation_descriptors: u32,
     pub kind: u8,
@@ -47,18 +40,12 @@ pub struct FileEntry {
     pub area_length: usize,
 }
 
-#[derive(Clone, Copy)]
-pub enum EntryRead {
-    Read(FileEntry),
-    Refused(Refusal),
-}
-
 // The fields from 64 on, where the two forms differ. The attributes start at `prefix`.
 #[derive(Clone, Copy)]
 struct EntryTail {
     prefix: usize,
     logical_blocks_recorded: u64,
-    object_size: ObjectSize,
+    object_size: Option<u64>,
     attributes: u32,
     descriptors: u32,
 }
@@ -69,7 +56,7 @@ fn plain_tail(s: &[u8]) -> EntryTail
     EntryTail {
         prefix: PLAIN_SIZE,
         logical_blocks_recorded: le64(s, 64),
-        object_size: ObjectSize::Absent,
+        object_size: None,
         attributes: le32(s, 168),
         descriptors: le32(s, 172),
     }
@@ -81,7 +68,7 @@ fn extended_tail(s: &[u8]) -> EntryTail
     EntryTail {
         prefix: EXTENDED_SIZE,
         logical_blocks_recorded: le64(s, 72),
-        object_size: ObjectSize::Recorded(le64(s, 64)),
+        object_size: Some(le64(s, 64)),
         attributes: le32(s, 208),
         descriptors: le32(s, 212),
     }
@@ -123,17 +110,17 @@ fn entry_of(s: &[u8], t: DescriptorTag, icb: IcbTag, d: EntryTail) -> FileEntry
 }
 
 // The entry, unless its kind is over 3 or its area ends past the bytes given.
-fn entry_with(s: &[u8], t: DescriptorTag, icb: IcbTag, d: EntryTail) -> EntryRead
+fn entry_with(s: &[u8], t: DescriptorTag, icb: IcbTag, d: EntryTail) -> Result<FileEntry, Refusal>
     requires { d.prefix ≤ 216 }
     ensures { result ≡ entry_with s.now t icb d }
 {
     if 3 < icb.flags % 8 {
-        return EntryRead::Refused(Refusal::Malformed);
+        return Err(Refusal::Malformed);
     }
     if s.len() < area_start(d) + d.descriptors as usize {
-        return EntryRead::Refused(Refusal::Malformed);
+        return Err(Refusal::Malformed);
     }
-    EntryRead::Read(entry_of(s, t, icb, d))
+    Ok(entry_of(s, t, icb, d))
 }
 
 // The id that the entry at the front of `s` must have: an extended one's if that is recorded, otherwise a plain
@@ -148,14 +135,14 @@ fn entry_id(s: &[u8]) -> u16
 }
 
 // The entry in `s`, whose tag is `t`.
-fn entry_behind(s: &[u8], t: DescriptorTag) -> EntryRead
+fn entry_behind(s: &[u8], t: DescriptorTag) -> Result<FileEntry, Refusal>
     requires { 176 ≤ length s.now }
     ensures { result ≡ entry_behind s.now t }
 {
     let icb = icb_tag_at(s, 16);
     if t.id == EXTENDED_ID {
         if s.len() < EXTENDED_SIZE {
-            return EntryRead::Refused(Refusal::Malformed);
+            return Err(Refusal::Malformed);
         }
         return entry_with(s, t, icb, extended_tail(s));
     }
@@ -163,13 +150,11 @@ fn entry_behind(s: &[u8], t: DescriptorTag) -> EntryRead
 }
 
 impl FileEntry {
-    pub fn parse(check: bool, s: &[u8]) -> EntryRead
+    pub fn parse(check: bool, s: &[u8]) -> Result<FileEntry, Refusal>
         ensures { result ≡ read_entry check s.now }
     {
-        match read_head(check, s, entry_id(s), PLAIN_SIZE) {
-            TagRead::Refused(why) => EntryRead::Refused(why),
-            TagRead::Read(t) => entry_behind(s, t),
-        }
+        let t = read_head(check, s, entry_id(s), PLAIN_SIZE)?;
+        entry_behind(s, t)
     }
 
     pub fn is_directory(self) -> bool

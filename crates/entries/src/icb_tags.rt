@@ -19,12 +19,6 @@ pub struct IcbTag {
     pub flags: u16,
 }
 
-#[derive(Clone, Copy)]
-pub enum IcbTagRead {
-    Read(IcbTag),
-    Refused(Refusal),
-}
-
 // The ICB tag at `i`.
 pub(crate) fn icb_tag_at(s: &[u8], i: usize) -> IcbTag
     requires { i ≤ length s.now }
@@ -45,12 +39,12 @@ pub(crate) fn icb_tag_at(s: &[u8], i: usize) -> IcbTag
 }
 
 impl IcbTag {
-    pub fn parse(s: &[u8]) -> IcbTagRead
+    pub fn parse(s: &[u8]) -> Result<IcbTag, Refusal>
         ensures { result ≡ read_icb_tag s.now }
     {
         if s.len() < 20 {
-            return IcbTagRead::Refused(Refusal::Malformed);
+            return Err(Refusal::Malformed);
         }
-        IcbTagRead::Read(icb_tag_at(s, 0))
+        Ok(icb_tag_at(s, 0))
     }
 }

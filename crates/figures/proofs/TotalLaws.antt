@@ -2,7 +2,6 @@
 use mathlib.Core.Path.{◌≡◌, refl, ap, sym, ◌∙◌}
 use mathlib.Core.List.{List, [], ◌∷◌, ◌++◌, append_assoc, append-nil}
 use Prim.Native.Nat.{ℕ, zero, suc, ◌+◌, ◌-◌, ◌*◌, ◌/◌, ◌<◌, ◌≤◌}
-use native.Mathlib.Nat.{add-zero, sub-zero}
 use native.Mathlib.Numerals.{add-one, add-two}
 use native.Mathlib.Omega.{arith}
 use lib.ListN.{length, get_or, take, drop, set, replicate, length-drop, length-append, take-append-drop}
@@ -61,10 +60,6 @@ pub record Adding (p₀ p : List ℕ) (to from k : ℕ) : Type 0 where
   pub rest : sets p (to + 2 * k) (places_added (39 - k) (take (80 - 2 * k) (drop (to + 2 * k) p)) (take (80 - 2 * k) (drop (from + 2 * k) p₀)))
       ≡ sets p₀ to (places_added 39 (take 80 (drop to p₀)) (take 80 (drop from p₀)))
 
-pub adding-starts : (p : List ℕ) (to from : ℕ) → (from + 80 ≤ to) × (to + 80 ≤ length p) → Adding p p to from 0
-adding-starts p to from h =
-    record { within = omega arith; apart = h.0; room = h.1; long = refl; front = refl; rest = rw (add-zero to, add-zero from) }
-
 -- what is left to do, with one sum done
 one-sum : (p p₀ : List ℕ) (at from m w : ℕ) → at + 1 < length p → from + 1 < length p₀
     → sets p at (places_added (suc m) (take (suc (suc w)) (drop at p)) (take (suc (suc w)) (drop from p₀)))
@@ -77,9 +72,6 @@ one-sum p p₀ at from m w h k =
     ∙ ap (λ n. sets (sets p at o) (at + n) rest) (summed-long (get_or p at 0) (get_or p (at + 1) 0) (get_or p₀ from 0) (get_or p₀ (from + 1) 0)))
 
 module _ {p₀ p : List ℕ} {to from k : ℕ} (a : Adding p₀ p to from k) where
-  pub adding-reads : k < 39 → from + 2 * k + 1 < length p
-  adding-reads h = omega (arith, a.long, a.room, a.apart)
-
   module _ (h : k < 39) where
     left-sums : 39 - k ≡ suc (39 - (k + 1))
     left-sums = omega arith
@@ -127,11 +119,8 @@ module _ {p₀ p : List ℕ} {to from k : ℕ} (a : Adding p₀ p to from k) whe
     all-sums : k ≡ 39
     all-sums = omega (arith, a.within)
 
-    pub chain-room : to + 78 + 1 < length p
+    chain-room : to + 78 + 1 < length p
     chain-room = omega (arith, a.long, a.room)
-
-    pub chain-reads : from + 78 + 1 < length p
-    chain-reads = omega (arith, a.long, a.room, a.apart)
 
     pub adding-ends : {p' : List ℕ}
         → p' ≡ sets p (to + 78) (greater (get_or p (to + 78) 0) (get_or p (to + 78 + 1) 0) (get_or p (from + 78) 0) (get_or p (from + 78 + 1) 0))
@@ -163,13 +152,7 @@ pub record Totaling (p₀ p : List ℕ) (n i : ℕ) : Type 0 where
   pub behind : drop (80 * (n + 1)) p ≡ drop (80 * (n + 1)) p₀
   pub rest : total_of (n - i) (take 80 (drop (80 * n) p)) (drop (80 * i) p₀) ≡ total_of n (take 80 (drop (80 * n) p₀)) p₀
 
-pub totaling-starts : (p : List ℕ) (n : ℕ) → 80 * (n + 1) ≤ length p → Totaling p p n 0
-totaling-starts p n h = record { within = omega arith; room = h; long = refl; front = refl; behind = refl; rest = rw sub-zero }
-
 module _ {p₀ p : List ℕ} {n i : ℕ} (a : Totaling p₀ p n i) where
-  pub totaling-room : i < n → (80 * i + 80 ≤ 80 * n) × (80 * n + 80 ≤ length p)
-  totaling-room h = (omega arith, omega (arith, a.long, a.room))
-
   module _ (h : i < n) where
     one_less : n - i ≡ suc (n - (i + 1))
     one_less = omega arith

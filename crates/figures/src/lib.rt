@@ -7,7 +7,6 @@ ghost use Rattle.figures.specs.Figures.{summed, greater, places_added, sums, tot
 ghost use Rattle.figures.specs.Placed.{with_directory, with_file, with_image};
 
 use disc::answers::{BAD_SHELF, DONE};
-use disc::counts::lesser;
 
 // How many numbers a place has, two for each of 40 figures: files, directories, bytes, extents, sectors, files by their answer number, images by
 // theirs, and the longest chain.
@@ -54,13 +53,6 @@ fn sum(number: u64, over: u64, more: u64, more_over: u64) -> [u64; 2]
     [number + more, 0]
 }
 
-// The greater of two numbers.
-fn greatest(a: u64, b: u64) -> u64
-    ensures { result ≡ max a b }
-{
-    if a < b { b } else { a }
-}
-
 // The greater of two figures with their overflow marks.
 fn longer(number: u64, over: u64, more: u64, more_over: u64) -> [u64; 2]
     ensures { result ≡ greater number over more more_over }
@@ -71,7 +63,7 @@ fn longer(number: u64, over: u64, more: u64, more_over: u64) -> [u64; 2]
     if more_over != 0 {
         return [MOST, 1];
     }
-    [greatest(number, more), 0]
+    [number.max(more), 0]
 }
 
 // Adds a figure to the one at `at`.
@@ -125,7 +117,7 @@ pub fn add_file(place: &mut [u64], answer: u64, bytes: u64, extents: u64, sector
     if place.len() != PLACE {
         return;
     }
-    let under = lesser(answer, MOST_ANSWER);
+    let under = answer.min(MOST_ANSWER);
     add_sizes(place, under, bytes, extents, sectors, chain);
 }
 
@@ -146,7 +138,7 @@ pub fn add_image(place: &mut [u64], answer: u64)
     if place.len() != PLACE {
         return;
     }
-    let under = lesser(answer, MOST_ANSWER);
+    let under = answer.min(MOST_ANSWER);
     add_sum(place, IMAGES_BY_ANSWER + 2 * under as usize, 1, 0);
 }
 
@@ -157,12 +149,10 @@ fn add_place(places: &mut [u64], to: usize, from: usize)
     requires { (from + 80 ≤ to) × (to + 80 ≤ length places.old) }
     ensures { places.new ≡ sets places.old to (places_added sums (take 80 (drop to places.old)) (take 80 (drop from places.old))) }
 {
-    let mut k: usize = 0;
-    while k < SUMS {
+    for k in 0..SUMS {
         let number = places[from + 2 * k];
         let over = places[from + 2 * k + 1];
         add_sum(places, to + 2 * k, number, over);
-        k += 1;
     }
     let chain = places[from + CHAIN];
     let over = places[from + CHAIN + 1];
@@ -174,10 +164,8 @@ fn add_places(places: &mut [u64], n: usize)
     requires { 80 * (n + 1) ≤ length places.old }
     ensures { places.new ≡ take (80 * n) places.old ++ total_of n (take 80 (drop (80 * n) places.old)) places.old ++ drop (80 * (n + 1)) places.old }
 {
-    let mut i: usize = 0;
-    while i < n {
+    for i in 0..n {
         add_place(places, PLACE * n, PLACE * i);
-        i += 1;
     }
 }
 
@@ -185,11 +173,7 @@ fn add_places(places: &mut [u64], n: usize)
 pub fn clear_figures(place: &mut [u64])
     ensures { place.new ≡ replicate (length place.old) 0 }
 {
-    let mut i = 0;
-    while i < place.len() {
-        place[i] = 0;
-        i += 1;
-    }
+    place.fill(0);
 }
 
 // Writes the total of the first n places to the one after them, or answers 15 if there are too few places.

@@ -1,9 +1,9 @@
 -- What a read of extents answers and how many sectors it asks for, on the disc that an image is: the first bytes of all that the extents hold, after
 -- at most one sector for each 2,048 bytes answered and one for each extent visited. Assumes nothing.
+use Rattle.std.specs.Prelude.{Option, Some, None}
 use mathlib.Core.Path.{◌≡◌, refl, ap, sym, ◌∙◌}
 use mathlib.Core.Bool.{Bool, true, false}
 use mathlib.Core.List.{List, [], ◌∷◌, ◌++◌}
-use mathlib.Core.Option.{Option, none, some}
 use mathlib.Core.Logic.{◌⊎◌, inl, inr, ⊎_elim}
 use Prim.Native.Nat.{ℕ, ◌+◌, ◌-◌, ◌*◌, ◌/◌, ◌≤◌, ◌<◌, min}
 use native.Mathlib.Omega.{arith}
@@ -48,8 +48,8 @@ module _ (image : List ℕ) (m : Mount) (e : AllocExtent) (want : ℕ) where
       typed true p = stands (placed m e.partition_ref e.block.0) refl
         where
           stands : (o : Option ℕ) → placed m e.partition_ref e.block.0 ≡ o → There image m e want ⊎ Off
-          stands none g = inr (record { why = Unsupported; n = 0; runs = weigh-nowhere image m e want (eqb-true _ _ p) g })
-          stands (some at) g = ⊎_elim
+          stands None g = inr (record { why = Unsupported; n = 0; runs = weigh-nowhere image m e want (eqb-true _ _ p) g })
+          stands (Some at) g = ⊎_elim
               (λ (h : sectors_read e.length want ≤ held_from image at). inl (record { at = at; recorded = eqb-true _ _ p; stands = g; held = h }))
               (λ (h : held_from image at < sectors_read e.length want). inr (record { why = Io; n = held_from image at + 1; runs = weigh-missing image m e want (eqb-true _ _ p) g h }))
               (split (sectors_read e.length want) (held_from image at))

@@ -1,7 +1,7 @@
 -- A file's bytes are bytes where the image's are. Assumes nothing.
+use Rattle.std.specs.Prelude.{Option, Some, None, Result, Ok, Err}
 use mathlib.Core.Path.{◌≡◌}
 use mathlib.Core.List.{List, [], ◌∷◌}
-use mathlib.Core.Option.{Option, none, some}
 use Prim.Native.Nat.{ℕ, zero, suc, ◌+◌, ◌-◌, min}
 use lib.ListN.{length, take, drop}
 use lib.Dec.{eqb, leb}
@@ -17,12 +17,12 @@ use Rattle.disc.proofs.GivenLaws.{sector-bytes, Gives, gives_then, gives-any, gi
 use Rattle.records.specs.declared.allocations.LongAd.{LongAd}
 use Rattle.areas.specs.declared.AllocExtent.{AllocExtent}
 use Rattle.entries.specs.FileEntries.{read_entry}
-use Rattle.entries.specs.declared.file_entries.EntryRead.{EntryRead}
-use Rattle.entries.specs.declared.file_entries.EntryRead.TheVariants.{Read, Refused}
 use Rattle.files.specs.Reads.{joining, extent_bytes, extents_bytes}
 use Rattle.files.specs.Files.{Located, located, entry_in, entry_at, entry_mount, is_embedded, chain_of, File, file_at, content_of, file_bytes}
 use Rattle.files.specs.Files.File.{embedded, chained}
 use Rattle.disc.specs.Parts.{Bytes}
+use Rattle.entries.specs.declared.file_entries.FileEntry.{FileEntry}
+use Rattle.disc.specs.declared.refusals.Refusal.{Refusal}
 
 joining-bytes : (want : ℕ) (b : List ℕ) (more : Ask (List ℕ)) → Bytes b → Gives Bytes more → Gives Bytes (joining want b more)
 unfolding Gives
@@ -40,8 +40,8 @@ extents-bytes m (e ∷ es) want = gives-pick Bytes (eqb e.extent_type 0) _ _ (st
   where
     stood : (o : Option ℕ) → ((b : List ℕ) → Gives Bytes (extents_bytes m es (want - length b)))
         → Gives Bytes (standing o (λ at. then (extent_bytes (sectors_for e.length) at e.length want) (λ b. joining want b (extents_bytes m es (want - length b)))))
-    stood none ih = tt
-    stood (some at) ih = gives_then Bytes Bytes (extent_bytes (sectors_for e.length) at e.length want) _ (extent-bytes (sectors_for e.length) at e.length want) (λ b h. joining-bytes want b _ h (ih b))
+    stood None ih = tt
+    stood (Some at) ih = gives_then Bytes Bytes (extent_bytes (sectors_for e.length) at e.length want) _ (extent-bytes (sectors_for e.length) at e.length want) (λ b h. joining-bytes want b _ h (ih b))
 
 -- an entry's sector, where the file is embedded
 abbrev Embedded : File → Type 0
@@ -52,13 +52,13 @@ entry-bytes : (m : Mount) (icb : LongAd) → Gives (λ (x : Located). Bytes x.se
 unfolding Gives entry_at
 entry-bytes m icb = gives-pick _ (eqb icb.length 0) _ _ tt (stood (icb_placed m icb.location.partition_ref icb.location.block))
   where
-    by : (at : ℕ) (s : List ℕ) → Bytes s → (x : EntryRead) → Gives (λ (x : Located). Bytes x.sector) (located at s x)
-    by at s h (Read e) = h
-    by at s h (Refused r) = tt
+    by : (at : ℕ) (s : List ℕ) → Bytes s → (x : Result FileEntry Refusal) → Gives (λ (x : Located). Bytes x.sector) (located at s x)
+    by at s h (Ok e) = h
+    by at s h (Err r) = tt
 
     stood : (o : Option ℕ) → Gives (λ (x : Located). Bytes x.sector) (standing o (entry_in (is_checked m)))
-    stood none = tt
-    stood (some at) = λ s h. by at s h (read_entry (is_checked m) s)
+    stood None = tt
+    stood (Some at) = λ s h. by at s h (read_entry (is_checked m) s)
 
 file-bytes : (m : Mount) (icb : LongAd) → Gives Bytes (file_bytes m icb)
 unfolding Gives file_bytes file_at

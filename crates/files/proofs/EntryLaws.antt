@@ -1,8 +1,8 @@
 -- The entry of a file, found from its ICB. Assumes nothing.
+use Rattle.std.specs.Prelude.{Option, Some, None, Result, Ok, Err}
 use mathlib.Core.Path.{◌≡◌, refl, ap, sym, ◌∙◌}
 use mathlib.Core.Bool.{Bool, true, false}
 use mathlib.Core.List.{List, [], ◌∷◌}
-use mathlib.Core.Option.{Option, none, some}
 use Prim.Native.Nat.{ℕ, zero, suc, ◌+◌, ◌*◌, ◌≤◌, ◌<◌, ◌^◌, min}
 use native.Mathlib.Omega.{arith}
 use lib.ListN.{length, take, drop, length-take, length-drop}
@@ -20,8 +20,6 @@ use Rattle.disc.specs.Ran.{Ran, ran, after, followed}
 use Rattle.disc.specs.Images.{there, disc, held_from}
 use Rattle.disc.specs.Places.{icb_placed, is_checked, StandsIn}
 use Rattle.disc.specs.declared.places.Mount.{Mount}
-use Rattle.disc.specs.declared.places.Placed.{Placed}
-use Rattle.disc.specs.declared.places.Placed.TheVariants.{At, Nowhere}
 use Rattle.disc.specs.declared.places.Sector.{Sector}
 use Rattle.disc.specs.declared.refusals.Refusal.{Refusal}
 use Rattle.disc.specs.declared.refusals.Refusal.TheVariants.{Io, Malformed, Unsupported}
@@ -33,25 +31,20 @@ use Rattle.areas.specs.declared.AllocExtent.{AllocExtent}
 use Rattle.areas.proofs.PartLaws.{area-in-part}
 use Rattle.entries.specs.FileEntries.{read_entry}
 use Rattle.entries.specs.declared.file_entries.FileEntry.{FileEntry}
-use Rattle.entries.specs.declared.file_entries.EntryRead.{EntryRead}
-use Rattle.entries.specs.declared.file_entries.EntryRead.TheVariants.{Read, Refused as NoEntry}
 use Rattle.entries.proofs.EntryLaws.{read-entry}
 use Rattle.chains.specs.Inner.Walks.{left, hops_at}
 use Rattle.chains.specs.Inner.Follows.{chain_at, WholeChain, BrokenChain, Followed}
 use Rattle.chains.specs.declared.cursors.ChainCursor.{ChainCursor}
-use Rattle.chains.specs.declared.follows.Chain.{Chain}
-use Rattle.chains.specs.declared.follows.Chain.TheVariants.{Whole, Refused as BrokenOff}
 use Rattle.chains.proofs.CountLaws.{whole-hops}
 use Rattle.chains.proofs.AskedLaws.{done-asks, refuse-asks, pick-asks, ask-asks, standing-asks}
 use Rattle.files.specs.declared.icbs.FilePlace.{FilePlace}
-use Rattle.files.specs.declared.icbs.PlaceRead.{PlaceRead}
-use Rattle.files.specs.declared.icbs.PlaceRead.TheVariants.{Found, Refused}
 use Rattle.files.specs.Files.{Located, located, entry_in, entry_at, entry_mount, is_embedded, hops_of, resolved, file_at, file_hops}
 use Rattle.files.specs.Files.File.{chained}
 use Rattle.files.specs.Inner.Places.{place_at, place_by, place_on, place_from, place_of}
 use Rattle.files.specs.Inner.Wholes.{read_by, place_in, front_of, FoundPlace, Finds, Locates, EmbeddedFile, Resolves}
-use Rattle.files.specs.declared.resolves.Resolved.TheVariants.{Embedded, Chained, Refused as Unresolved}
 use Rattle.chains.specs.Totals.{AtMost}
+use Rattle.disc.specs.declared.refusals.CountedRefusal.{CountedRefusal}
+use Rattle.files.specs.declared.resolves.Resolved.TheVariants.{Embedded, Chained}
 
 -- a part of a part
 part_of : (n i m : ℕ) (s : List ℕ) → i + n ≤ m → take n (drop i (take m s)) ≡ take n (drop i s)
@@ -65,19 +58,19 @@ pub entry-asks : (m : Mount) (icb : LongAd) → AtMost 1 (entry_at m icb)
 unfolding entry_at
 entry-asks m icb = pick-asks (eqb icb.length 0) 1 (refuse-asks Malformed 1) (standing-asks (icb_placed m icb.location.partition_ref icb.location.block) _ 1 (λ at. ask-asks at _ 0 (λ s. by at s (read_entry (is_checked m) s))))
   where
-    by : (at : ℕ) (s : List ℕ) (r : EntryRead) → AtMost 0 (located at s r)
-    by at s (NoEntry r) = refuse-asks r 0
-    by at s (Read e) = done-asks _ 0
+    by : (at : ℕ) (s : List ℕ) (r : Result FileEntry Refusal) → AtMost 0 (located at s r)
+    by at s (Err r) = refuse-asks r 0
+    by at s (Ok e) = done-asks _ 0
 
 -- ---- the returns of `place_in`
 
-module _ (check : Bool) (s : List ℕ) (from : ℕ) {r : EntryRead} (q : r ≡ read_entry check s) where
-  pub place_none : {why : Refusal} → r ≡ NoEntry why → Refused why 1 ≡ place_in check s from
+module _ (check : Bool) (s : List ℕ) (from : ℕ) {r : Result FileEntry Refusal} (q : r ≡ read_entry check s) where
+  pub place_none : {why : Refusal} → r ≡ Err why → Err (record { why = why; count = 1 }) ≡ place_in check s from
   unfolding place_in
   place_none f = rw (← q, f)
 
-  module _ {x : FileEntry} (f : r ≡ Read x) where
-    pub place_found : Found (record { kind = x.kind; information = x.information_length; at = from + x.area_at; size = x.area_length }) ≡ place_in check s from
+  module _ {x : FileEntry} (f : r ≡ Ok x) where
+    pub place_found : Ok (record { kind = x.kind; information = x.information_length; at = from + x.area_at; size = x.area_length }) ≡ place_in check s from
     unfolding place_in
     place_found = rw (← q, f)
 
@@ -97,10 +90,10 @@ locate-room image sector e = rw e (by (there image sector))
 
 module _ (image : List ℕ) (check : Bool) (sector : ℕ) where
   module _ {h : ℕ} (e : h ≡ held_from image sector) where
-    missing-runs : h ≡ 0 → Finds image (entry_in check sector) (Refused Io 1)
+    missing-runs : h ≡ 0 → Finds image (entry_in check sector) (Err (record { why = Io; count = 1 }))
     missing-runs k = ran-missing (disc image) sector _ (missing image sector (omega arith))
 
-    pub from-missing : h ≡ 0 → Refused Io 1 ≡ place_from image check sector
+    pub from-missing : h ≡ 0 → Err (record { why = Io; count = 1 }) ≡ place_from image check sector
     unfolding place_on
     from-missing k = rw (missing-runs k)
 
@@ -117,10 +110,10 @@ module _ (image : List ℕ) (check : Bool) (sector : ℕ) where
       goes_on : ran (disc image) (entry_in check sector) ≡ after 1 (ran (disc image) (located sector b (read_entry check b)))
       goes_on = ran-there (disc image) sector _ _ (held image sector inside) ∙ rw (← bytes)
 
-      none_read : {why : Refusal} → read_entry check b ≡ NoEntry why → Finds image (entry_in check sector) (Refused why 1)
+      none_read : {why : Refusal} → read_entry check b ≡ Err why → Finds image (entry_in check sector) (Err (record { why = why; count = 1 }))
       none_read f = goes_on ∙ rw (f, ran-refuse)
 
-      module _ {x : FileEntry} (f : read_entry check b ≡ Read x) where
+      module _ {x : FileEntry} (f : read_entry check b ≡ Ok x) where
         in-sector : x.area_at + x.area_length ≤ 2048
         in-sector =
             let l : length (take 2048 (drop from image)) ≡ 2048 = length-take-le 2048 (drop from image) (rw length-drop (omega (arith, inside))) in
@@ -132,7 +125,7 @@ module _ (image : List ℕ) (check : Bool) (sector : ℕ) where
         found-entry : ran (disc image) (entry_in check sector) ≡ record { outcome = answered it; count = 1 }
         found-entry = goes_on ∙ rw (f, ran-done)
 
-        entry_read : Finds image (entry_in check sector) (Found (place_at from x))
+        entry_read : Finds image (entry_in check sector) (Ok (place_at from x))
         entry_read = record {
           entry = it;
           runs = found-entry;
@@ -147,19 +140,19 @@ module _ (image : List ℕ) (check : Bool) (sector : ℕ) where
       unfolding place_in
       entry_runs = by (read_entry check b) refl
         where
-          by : (y : EntryRead) → read_entry check b ≡ y → Finds image (entry_in check sector) (read_by from y)
-          by (NoEntry why) f = none_read f
-          by (Read x) f = entry_read f
+          by : (y : Result FileEntry Refusal) → read_entry check b ≡ y → Finds image (entry_in check sector) (read_by from y)
+          by (Err why) f = none_read f
+          by (Ok x) f = entry_read f
 
       same_place : place_in check b from ≡ place_from image check sector
       unfolding place_in place_on
       same_place = by (read_entry check b) refl
         where
-          by : (y : EntryRead) → read_entry check b ≡ y → read_by from y ≡ place_by (ran (disc image) (entry_in check sector)).outcome (ran (disc image) (entry_in check sector)).count
-          by (NoEntry why) f = rw (none_read f)
-          by (Read x) f = rw (found-entry f)
+          by : (y : Result FileEntry Refusal) → read_entry check b ≡ y → read_by from y ≡ place_by (ran (disc image) (entry_in check sector)).outcome (ran (disc image) (entry_in check sector)).count
+          by (Err why) f = rw (none_read f)
+          by (Ok x) f = rw (found-entry f)
 
-      pub from-entry : {r : PlaceRead} → r ≡ place_in check b (2048 * sector) → r ≡ place_from image check sector
+      pub from-entry : {r : Result FilePlace CountedRefusal} → r ≡ place_in check b (2048 * sector) → r ≡ place_from image check sector
       from-entry q = q ∙ same_place
 
   -- what it says is what the tree comes to
@@ -178,42 +171,42 @@ module _ (image : List ℕ) (m : Mount) (icb : LongAd) where
   abbrev place : Option ℕ
   place = icb_placed m icb.location.partition_ref icb.location.block
 
-  zero-runs : icb.length ≡ 0 → Locates image m icb (Refused Malformed 0)
+  zero-runs : icb.length ≡ 0 → Locates image m icb (Err (record { why = Malformed; count = 0 }))
   unfolding entry_at
   zero-runs h = rw (eq-eqb icb.length 0 h) (ran-refuse (disc image) Malformed)
 
-  pub locate-zero : icb.length ≡ 0 → Refused Malformed 0 ≡ place_of image m icb
+  pub locate-zero : icb.length ≡ 0 → Err (record { why = Malformed; count = 0 }) ≡ place_of image m icb
   unfolding place_on
   locate-zero h = rw (zero-runs h)
 
   module _ (z : icb.length ≡ 0 → ⊥) where
-    nowhere-runs : place ≡ none → Locates image m icb (Refused Unsupported 0)
+    nowhere-runs : place ≡ None → Locates image m icb (Err (record { why = Unsupported; count = 0 }))
     unfolding entry_at
     nowhere-runs w = rw (ne_eqb icb.length 0 z, w) (ran-refuse (disc image) Unsupported)
 
-    nowhere-is : place ≡ none → Refused Unsupported 0 ≡ place_of image m icb
+    nowhere-is : place ≡ None → Err (record { why = Unsupported; count = 0 }) ≡ place_of image m icb
     unfolding place_on
     nowhere-is w = rw (nowhere-runs w)
 
     -- an ICB that stands in a sector
-    stood : {sector : ℕ} → place ≡ some sector → entry_at m icb ≡ entry_in (is_checked m) sector
+    stood : {sector : ℕ} → place ≡ Some sector → entry_at m icb ≡ entry_in (is_checked m) sector
     unfolding entry_at
     stood w = rw (ne_eqb icb.length 0 z, w)
 
-    module _ {p : Placed} (q : StandsIn place p) where
-      pub locate-nowhere : p ≡ Nowhere → Refused Unsupported 0 ≡ place_of image m icb
+    module _ {p : Option Sector} (q : StandsIn place p) where
+      pub locate-nowhere : p ≡ None → Err (record { why = Unsupported; count = 0 }) ≡ place_of image m icb
       locate-nowhere e = nowhere-is (in-nowhere place q e)
 
-      pub locate-at : {s : Sector} → p ≡ At s → {check : Bool} → check ≡ is_checked m → {r : PlaceRead} → r ≡ place_from image check s.0 → r ≡ place_of image m icb
+      pub locate-at : {s : Sector} → p ≡ Some s → {check : Bool} → check ≡ is_checked m → {r : Result FilePlace CountedRefusal} → r ≡ place_from image check s.0 → r ≡ place_of image m icb
       locate-at {s} e c f = rw (stood (in-at place q e), ← c) f
 
   -- what every call comes to, from what `locate` says
-  pub locates : {r : PlaceRead} → r ≡ place_of image m icb → Locates image m icb r
+  pub locates : {r : Result FilePlace CountedRefusal} → r ≡ place_of image m icb → Locates image m icb r
   locates q = rw q (by_length (eqb icb.length 0) refl)
     where
       by_place : (icb.length ≡ 0 → ⊥) → (o : Option ℕ) → place ≡ o → Locates image m icb (place_of image m icb)
-      by_place z none w = rw (← nowhere-is z w) (nowhere-runs z w)
-      by_place z (some sector) w = rw (stood z w) (from-finds image (is_checked m) sector)
+      by_place z None w = rw (← nowhere-is z w) (nowhere-runs z w)
+      by_place z (Some sector) w = rw (stood z w) (from-finds image (is_checked m) sector)
 
       by_length : (t : Bool) → eqb icb.length 0 ≡ t → Locates image m icb (place_of image m icb)
       by_length true t = let h : icb.length ≡ 0 = eqb-true _ _ t in rw (← locate-zero h) (zero-runs h)
@@ -245,24 +238,24 @@ module _ (image : List ℕ) (m : Mount) (icb : LongAd) {p : FilePlace} (q : Foun
 
 -- ---- the entry and the chain: r is what `locate` found, and c what `follow` did
 
-module _ (image : List ℕ) (m : Mount) (icb : LongAd) {r : PlaceRead} (y : r ≡ place_of image m icb) where
+module _ (image : List ℕ) (m : Mount) (icb : LongAd) {r : Result FilePlace CountedRefusal} (y : r ≡ place_of image m icb) where
   refused-few : {why : Refusal} {n : ℕ} → ran (disc image) (entry_at m icb) ≡ record { outcome = refused why; count = n } → n ≤ 1
   refused-few {why} {n} e = rw e at ((entry-asks m icb).most (disc image))
 
-  pub resolve-refused : {why : Refusal} {n : ℕ} → r ≡ Refused why n → Resolves image m icb (Unresolved why n)
+  pub resolve-refused : {w : CountedRefusal} → r ≡ Err w → Resolves image m icb (Err w)
   unfolding file_at
-  resolve-refused {why} {n} e =
-      let q : Locates image m icb (Refused why n) = locates image m icb (sym e ∙ y) in
+  resolve-refused {w} e =
+      let q : Locates image m icb (Err w) = locates image m icb (sym e ∙ y) in
       record { runs = rw (ran_then, q); few = omega (arith, refused-few q) }
 
-  module _ {p : FilePlace} (e : r ≡ Found p) where
+  module _ {p : FilePlace} (e : r ≡ Ok p) where
     found : FoundPlace image (entry_at m icb) p
     found = locates image m icb (sym e ∙ y)
 
-    pub resolve-embedded : p.kind ≡ 3 → Resolves image m icb (Embedded p)
+    pub resolve-embedded : p.kind ≡ 3 → Resolves image m icb (Ok (Embedded p))
     resolve-embedded k = found-embedded image m icb found k
 
-    module _ (k : p.kind ≡ 3 → ⊥) {own : Mount} (o : own ≡ entry_mount m icb) {front : ChainCursor} (g : front ≡ front_of p) (c : Chain) (w : Followed image own p.kind front c) where
+    module _ (k : p.kind ≡ 3 → ⊥) {own : Mount} (o : own ≡ entry_mount m icb) {front : ChainCursor} (g : front ≡ front_of p) (c : Result ℕ CountedRefusal) (w : Followed image own p.kind front c) where
       found-size : p.size ≡ found.entry.entry.area_length
       found-size = ap (λ (x : FilePlace). x.size) found.is
 
@@ -270,17 +263,17 @@ module _ (image : List ℕ) (m : Mount) (icb : LongAd) {r : PlaceRead} (y : r �
       follows : ran (disc image) (file_at m icb) ≡ after 1 (followed (chain_at image (entry_mount m icb) p.kind (front_of p)) (λ es. ran (disc image) (done (chained found.entry es))))
       follows = found-goes image m icb found ∙ rw (← found-kind image m icb found, ne_eqb p.kind 3 k, ran_then, ← found-size, found.area)
 
-      module _ {why : Refusal} {n : ℕ} (f : c ≡ BrokenOff why n) where
-        broken : BrokenChain image (entry_mount m icb) p.kind (front_of p) why n
+      module _ {v : CountedRefusal} (f : c ≡ Err v) where
+        broken : BrokenChain image (entry_mount m icb) p.kind (front_of p) v.why v.count
         broken = rw (o, g) at (rw f at w)
 
-        pub broken-fits : Fits w64 (n + 1)
+        pub broken-fits : Fits w64 (v.count + 1)
         broken-fits = omega (arith, broken.few)
 
-        pub resolve-broken : Resolves image m icb (Unresolved why (n + 1))
-        resolve-broken = record { runs = follows ∙ rw broken.runs (ap (λ j. record { outcome = refused why; count = j }) (omega arith)); few = omega (arith, broken.few) }
+        pub resolve-broken : Resolves image m icb (Err (record { why = v.why; count = v.count + 1 }))
+        resolve-broken = record { runs = follows ∙ rw broken.runs (ap (λ j. record { outcome = refused v.why; count = j }) (omega arith)); few = omega (arith, broken.few) }
 
-      module _ {n : ℕ} (f : c ≡ Whole n) where
+      module _ {n : ℕ} (f : c ≡ Ok n) where
         whole : WholeChain image (entry_mount m icb) p.kind (front_of p) n
         whole = rw (o, g) at (rw f at w)
 
@@ -293,7 +286,7 @@ module _ (image : List ℕ) (m : Mount) (icb : LongAd) {r : PlaceRead} (y : r �
             ∙ rw (← found-kind image m icb found, ne_eqb p.kind 3 k, ← found-size, found.area)
             (whole-hops image (entry_mount m icb) p.kind (front_of p) _ (ap (λ (x : Ran (List AllocExtent)). x.outcome) whole.runs))
 
-        pub resolve-whole : Resolves image m icb (Chained p (n + 1))
+        pub resolve-whole : Resolves image m icb (Ok (Chained p (n + 1)))
         resolve-whole = record {
           entry = found.entry;
           runs = follows ∙ rw (whole.runs, ran-done) (ap (λ j. record { outcome = answered (chained found.entry (left image (entry_mount m icb) p.kind (front_of p))); count = j }) (omega arith));

@@ -1,9 +1,9 @@
 -- A file of a volume whose descriptors' bodies are checked is the file without that check, with its entry and the header of each continuation marked where
 -- they are parsed. Assumes nothing.
+use Rattle.std.specs.Prelude.{Option, Some, None, Result, Ok, Err}
 use mathlib.Core.Path.{◌≡◌, refl, ◌∙◌}
 use mathlib.Core.Bool.{true, false}
 use mathlib.Core.List.{List, [], ◌∷◌}
-use mathlib.Core.Option.{Option, none, some}
 use Prim.Native.Nat.{ℕ, zero, suc, ◌+◌, ◌-◌}
 use native.Mathlib.Omega.{arith}
 use lib.ListN.{length, take}
@@ -21,8 +21,6 @@ use Rattle.tags.specs.declared.DescriptorTag.{DescriptorTag}
 use Rattle.areas.specs.declared.AllocExtent.{AllocExtent}
 use Rattle.areas.specs.Areas.{area_at}
 use Rattle.entries.specs.FileEntries.{entry_id, entry_behind, entry_after, read_entry}
-use Rattle.entries.specs.declared.file_entries.EntryRead.{EntryRead}
-use Rattle.entries.specs.declared.file_entries.EntryRead.TheVariants.{Read, Refused}
 use Rattle.entries.proofs.EntryLaws.{behind-refused}
 use Rattle.chains.proofs.GuardLaws.{placed-unchecked, area-ends, chain-guards}
 use Rattle.files.specs.Reads.{joining, extent_bytes, extents_bytes}
@@ -30,6 +28,8 @@ use Rattle.files.specs.Files.{Located, located, entry_in, entry_at, entry_mount,
 use Rattle.files.specs.Files.File.{embedded, chained}
 use Rattle.disc.specs.Marks.{Guards}
 use Rattle.tags.specs.Heads.{right_at}
+use Rattle.entries.specs.declared.file_entries.FileEntry.{FileEntry}
+use Rattle.disc.specs.declared.refusals.Refusal.{Refusal}
 
 -- ---- its extents hold no descriptor
 
@@ -50,8 +50,8 @@ read-guards m (e ∷ es) want = rw (placed-unchecked m) (pick-guards (eqb e.exte
         → Guards right_at
         (standing o (λ at. then (extent_bytes (sectors_for e.length) at e.length want) (λ b. joining want b (extents_bytes m es (want - length b)))))
         (standing o (λ at. then (extent_bytes (sectors_for e.length) at e.length want) (λ b. joining want b (extents_bytes (unchecked m) es (want - length b)))))
-    by none h = refuse-guards Unsupported (λ z. omega arith)
-    by (some at) h = then-guards (extent-guards (sectors_for e.length) at e.length want) (λ b. joining-guards want b (h (want - length b)))
+    by None h = refuse-guards Unsupported (λ z. omega arith)
+    by (Some at) h = then-guards (extent-guards (sectors_for e.length) at e.length want) (λ b. joining-guards want b (h (want - length b)))
 
 -- ---- its entry, its chain, and what is asked of it
 
@@ -62,9 +62,9 @@ sector-guards at = ask-guards at (λ s.
     gate-guards s (entry_id s) 176 (λ r. located at s (entry_after s r)) (λ r. located at s (entry_after s r)) (λ r. refl) (λ r. refl)
     (λ t. by s t (entry_behind s t) refl))
   where
-    by : (s : List ℕ) (t : DescriptorTag) (x : EntryRead) → entry_behind s t ≡ x → Guards right_at (located at s x) (located at s x)
-    by s t (Read e) q = done-guards _
-    by s t (Refused r) q = refuse-guards r (rw (behind-refused s t q) (λ z. omega arith))
+    by : (s : List ℕ) (t : DescriptorTag) (x : Result FileEntry Refusal) → entry_behind s t ≡ x → Guards right_at (located at s x) (located at s x)
+    by s t (Ok e) q = done-guards _
+    by s t (Err r) q = refuse-guards r (rw (behind-refused s t q) (λ z. omega arith))
 
 module _ (m : Mount) (c : is_checked m ≡ true) (icb : LongAd) where
   pub entry-guards : Guards right_at (entry_at m icb) (entry_at (unchecked m) icb)
@@ -74,8 +74,8 @@ module _ (m : Mount) (c : is_checked m ≡ true) (icb : LongAd) where
       (by (icb_placed m icb.location.partition_ref icb.location.block)))
     where
       by : (o : Option ℕ) → Guards right_at (standing o (entry_in true)) (standing o (entry_in false))
-      by none = refuse-guards Unsupported (λ z. omega arith)
-      by (some at) = sector-guards at
+      by None = refuse-guards Unsupported (λ z. omega arith)
+      by (Some at) = sector-guards at
 
   -- the mount by which the entry's own descriptors are read
   abbrev own : Mount

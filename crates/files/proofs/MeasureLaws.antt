@@ -1,4 +1,5 @@
 -- The pass that measures, one turn at a time. Assumes nothing.
+use Rattle.std.specs.Prelude.{Result, Ok, Err}
 use mathlib.Core.Path.{◌≡◌, refl, ap, ◌∙◌}
 use mathlib.Core.List.{List, ◌∷◌}
 use Prim.Native.Nat.{ℕ, ◌+◌, ◌-◌, ◌≤◌, ◌<◌, ◌^◌}
@@ -19,8 +20,6 @@ use Rattle.chains.specs.Inner.Walks.{left, hops_at, weight}
 use Rattle.chains.specs.declared.cursors.ChainCursor.{ChainCursor}
 use Rattle.files.specs.declared.pieces.Turn.{Turn}
 use Rattle.files.specs.declared.pieces.Turn.TheVariants.{Piece, Hop, Refused as Stopped, End}
-use Rattle.files.specs.declared.extents.Measured.{Measured}
-use Rattle.files.specs.declared.extents.Measured.TheVariants.{Sized, Refused}
 use Rattle.files.specs.Reads.{visited}
 use Rattle.files.specs.Inner.Pieces.{in_front, joined, rest_at, Lies, PieceTurn, HopTurn, EndTurn, Turned}
 use Rattle.files.specs.Inner.Passes.{Came, sized, Measures}
@@ -29,6 +28,8 @@ use Rattle.files.specs.Inner.Turns.{turn_at}
 use Rattle.files.proofs.PieceLaws.{part-long}
 use Rattle.files.proofs.TurnLaws.{turned}
 use Rattle.disc.specs.Parts.{Bytes}
+use Rattle.files.specs.declared.extents.Sizes.{Sizes}
+use Rattle.disc.specs.declared.refusals.CountedRefusal.{CountedRefusal}
 
 -- ---- what is measured, piece by piece
 
@@ -91,7 +92,7 @@ module _ (image : List ℕ) (m : Mount) (kind want : ℕ) (c₀ : ChainCursor) w
     p : Turned image m kind c (want - size) t
     p = turned image m kind c (want - size) i.known g
 
-    pub measure-end : t ≡ End → {r : Measured} → r ≡ Sized (record { size = size; count = count; visits = visits; behind = c }) → Measures image m kind c₀ want r
+    pub measure-end : t ≡ End → {r : Result Sizes CountedRefusal} → r ≡ Ok (record { size = size; count = count; visits = visits; behind = c }) → Measures image m kind c₀ want r
     unfolding sized visited
     measure-end e f =
         let q : EndTurn image m kind c (want - size) = rw e at p in
@@ -100,7 +101,7 @@ module _ (image : List ℕ) (m : Mount) (kind want : ℕ) (c₀ : ChainCursor) w
         let v : visits + 0 ≡ visited (extents c₀) want = (rw q.list at b.rest) in
         rw f (record { came = (rw (q.runs, n, add-zero) at i.rest); begun = omega (arith, v); all = b.all; gone = b.gone; room = b.room })
 
-    pub measure-refused : {a : Refusal} {n k : ℕ} → t ≡ Stopped a n → k ≡ reported (count + n) → Measures image m kind c₀ want (Refused a k)
+    pub measure-refused : {a : Refusal} {n k : ℕ} → t ≡ Stopped a n → k ≡ reported (count + n) → Measures image m kind c₀ want (Err (record { why = a; count = k }))
     unfolding sized
     measure-refused {a} {n} {k} e f =
         let q : Turned image m kind c (want - size) (Stopped a n) = rw e at p in
@@ -154,7 +155,7 @@ module _ (image : List ℕ) (m : Mount) (kind want : ℕ) (c₀ : ChainCursor) w
       still-room = omega (arith, i.begun.room, turn.less)
 
       module _ {j : ℕ} (f : j ≡ reported (count + n)) where
-        pub measure-enough : want ≤ size + k → {r : Measured} → r ≡ Sized (record { size = size + k; count = j; visits = visits + 1; behind = c' }) → Measures image m kind c₀ want r
+        pub measure-enough : want ≤ size + k → {r : Result Sizes CountedRefusal} → r ≡ Ok (record { size = size + k; count = j; visits = visits + 1; behind = c' }) → Measures image m kind c₀ want r
         measure-enough h g =
             let v : visited (extents c) (want - size) ≡ 1 + 0 = turn.begun ∙ rw (le-leb (want - size) k (omega arith)) in
             rw g (record {

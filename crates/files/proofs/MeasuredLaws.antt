@@ -1,9 +1,9 @@
 -- A file measured without a copy, put together from its passes; and what that says of a read. Assumes nothing.
-use mathlib.Core.Path.{◌≡◌, refl, ap, sym, ◌∙◌}
+use Rattle.std.specs.Prelude.{Result, Ok, Err}
+use mathlib.Core.Path.{◌≡◌, refl, ap, ◌∙◌}
 use mathlib.Core.Bool.{true}
 use mathlib.Core.List.{List, []}
-use Prim.Native.Nat.{ℕ, ◌+◌, ◌-◌, ◌*◌, ◌≤◌, ◌^◌, min}
-use native.Mathlib.Nat.{add-zero, zero-add}
+use Prim.Native.Nat.{ℕ, ◌+◌, ◌-◌, ◌≤◌, min}
 use native.Mathlib.Omega.{arith}
 use lib.ListN.{length, drop, length-drop}
 use lib.Seq.{length-take-le}
@@ -26,28 +26,25 @@ use Rattle.disc.proofs.PickLaws.{not-both}
 use Rattle.disc.proofs.RanLaws.{ran-done, ran_then}
 use Rattle.records.specs.declared.allocations.LongAd.{LongAd}
 use Rattle.areas.specs.declared.AllocExtent.{AllocExtent}
-use Rattle.areas.specs.declared.AdEnding.TheVariants.{End}
 use Rattle.areas.specs.Areas.{area_at, descriptors, size_of}
 use Rattle.chains.specs.Chains.{most_continuations}
-use Rattle.chains.specs.Inner.Walks.{beyond, left, passed, hops_at, weight, Counts}
+use Rattle.chains.specs.Inner.Walks.{beyond, left, passed, hops_at, Counts}
 use Rattle.chains.specs.declared.cursors.ChainCursor.{ChainCursor}
 use Rattle.chains.specs.declared.counts.Counted.{Counted}
 use Rattle.chains.proofs.CountLaws.{counts-exact}
 use Rattle.files.specs.declared.icbs.FilePlace.{FilePlace}
 use Rattle.files.specs.declared.extents.Sizes.{Sizes}
-use Rattle.files.specs.declared.extents.Measured.{Measured}
-use Rattle.files.specs.declared.extents.Measured.TheVariants.{Sized, Refused}
-use Rattle.files.specs.declared.resolves.Resolved.{Resolved}
-use Rattle.files.specs.declared.resolves.Resolved.TheVariants.{Embedded, Chained, Refused as Unresolved}
-use Rattle.files.specs.declared.sizes.FileSizes.{FileSizes}
 use Rattle.files.specs.declared.sizes.Weighing.{Weighing}
-use Rattle.files.specs.Files.{entry_mount, file_bytes, file_extents, file_hops}
+use Rattle.files.specs.Files.{entry_mount, file_bytes, file_extents}
 use Rattle.files.specs.Sizes.{sizes_by, sizes_of}
 use Rattle.files.specs.Inner.Pieces.{rest_at}
 use Rattle.files.specs.Inner.Passes.{SizedTo, Measures}
 use Rattle.files.specs.Inner.Wholes.{embedded_in, front_of, EmbeddedFile, ChainedFile, Resolves}
 use Rattle.files.specs.Inner.Weighings.{uncounted_by, sized_with, Weighs, WeighsChain, WeighsFile}
 use Rattle.files.proofs.ReadLaws.{told-no, told-yes}
+use Rattle.disc.specs.declared.refusals.CountedRefusal.{CountedRefusal}
+use Rattle.files.specs.declared.resolves.Resolved.TheVariants.{Embedded, Chained}
+use Rattle.files.specs.declared.resolves.Resolved.{Resolved}
 
 -- ---- a read's reply is the measured one where the room suffices, else `full` with the same count
 
@@ -90,21 +87,21 @@ module _ (image : List ℕ) (m : Mount) where
 pub weigh-little : (p : FilePlace) {front : ChainCursor} → front ≡ front_of p → p.size ≤ 2048 → front.left ≤ 2048
 weigh-little p g h = rw g h
 
-module _ (image : List ℕ) (v : Mount) (p : FilePlace) (n : ℕ) {front : ChainCursor} (g : front ≡ front_of p) (t : Measured) (q : Measures image v p.kind front p.information t) where
+module _ (image : List ℕ) (v : Mount) (p : FilePlace) (n : ℕ) {front : ChainCursor} (g : front ≡ front_of p) (t : Result Sizes CountedRefusal) (q : Measures image v p.kind front p.information t) where
   abbrev rest : Ran (List ℕ)
   rest = rest_at image v p.kind (front_of p) p.information
 
   measured : Measures image v p.kind (front_of p) p.information t
   measured = rw g at q
 
-  pub weigh-refused : {why : Refusal} {j : ℕ} → t ≡ Refused why j → {a : ℕ} → a ≡ number why → {k : ℕ} → k ≡ reported (n + j) → {x : Reply} → x ≡ record { answer = a; count = k; length = 0 }
+  pub weigh-refused : {why : Refusal} {j : ℕ} → t ≡ Err (record { why = why; count = j }) → {a : ℕ} → a ≡ number why → {k : ℕ} → k ≡ reported (n + j) → {x : Reply} → x ≡ record { answer = a; count = k; length = 0 }
       → {w : Weighing} → w ≡ uncounted_by v x → WeighsChain image v p n w
   weigh-refused {why} f a {k} h e u =
       let d = told-no image v p.kind (front_of p) p.information t measured f in
       let c : k ≡ reported (n + rest.count) = omega (arith, d.count) in
       uncounted image v (after n rest) _ _ (rw d.outcome) (e ∙ rw (a, c, d.outcome)) u
 
-  module _ (l : p.size ≤ 2048) {s : Sizes} (f : t ≡ Sized s) {k : ℕ} (h : k ≡ reported (n + s.count)) where
+  module _ (l : p.size ≤ 2048) {s : Sizes} (f : t ≡ Ok s) {k : ℕ} (h : k ≡ reported (n + s.count)) where
     sizes : SizedTo image v p.kind (front_of p) p.information s
     sizes = rw f at measured
 
@@ -135,20 +132,20 @@ module _ (image : List ℕ) (v : Mount) (p : FilePlace) (n : ℕ) {front : Chain
 
 -- ---- the returns of `weigh_file`: r is what `resolve` found
 
-module _ (image : List ℕ) (m : Mount) (icb : LongAd) (r : Resolved) (y : Resolves image m icb r) where
+module _ (image : List ℕ) (m : Mount) (icb : LongAd) (r : Result Resolved CountedRefusal) (y : Resolves image m icb r) where
   abbrev bytes : Ran (List ℕ)
   bytes = ran (disc image) (file_bytes m icb)
 
-  pub file-refused : {why : Refusal} {n : ℕ} → r ≡ Unresolved why n → {a : ℕ} → a ≡ number why → {x : Reply} → x ≡ record { answer = a; count = n; length = 0 }
+  pub file-refused : {why : Refusal} {n : ℕ} → r ≡ Err (record { why = why; count = n }) → {a : ℕ} → a ≡ number why → {x : Reply} → x ≡ record { answer = a; count = n; length = 0 }
       → {w : Weighing} → w ≡ uncounted_by m x → WeighsFile image m icb w
   unfolding file_bytes
   file-refused {why} {n} e a f u =
-      let q : Resolves image m icb (Unresolved why n) = rw e at y in
+      let q : Resolves image m icb (Err (record { why = why; count = n })) = rw e at y in
       let z : bytes ≡ record { outcome = refused why; count = n } = rw (ran_then, q.runs) in
       let c : reported n ≡ n = omega (arith, q.few) in
       uncounted image m bytes _ _ (rw z) (f ∙ rw (a, z, c)) u
 
-  pub file-in : {p : FilePlace} → r ≡ Embedded p → {k : ℕ} → k ≡ min p.size p.information → {w : Weighing} → w ≡ uncounted_by m (record { answer = 0; count = 1; length = k })
+  pub file-in : {p : FilePlace} → r ≡ Ok (Embedded p) → {k : ℕ} → k ≡ min p.size p.information → {w : Weighing} → w ≡ uncounted_by m (record { answer = 0; count = 1; length = k })
       → WeighsFile image m icb w
   unfolding file_bytes file_extents
   file-in {p} e {k} f u =
@@ -158,7 +155,7 @@ module _ (image : List ℕ) (m : Mount) (icb : LongAd) (r : Resolved) (y : Resol
       let h : ran (disc image) (file_extents m icb) ≡ record { outcome = answered []; count = 1 } = rw (ran_then, q.runs, ran-done) in
       uncounted image m bytes _ _ (rw (z, h, q.hops)) (rw (z, l)) u
 
-  module _ {p : FilePlace} {n : ℕ} (e : r ≡ Chained p n) where
+  module _ {p : FilePlace} {n : ℕ} (e : r ≡ Ok (Chained p n)) where
     in-chain : ChainedFile image m icb p n
     in-chain = rw e at y
 

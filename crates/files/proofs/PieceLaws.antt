@@ -1,7 +1,7 @@
 -- What the next piece of a file is: the laws that `sectors_read`, `weigh` and `next_piece` cite. Assumes nothing.
+use Rattle.std.specs.Prelude.{Some, None, Result, Ok, Err}
 use mathlib.Core.Path.{◌≡◌, refl, ◌∙◌}
 use mathlib.Core.List.{List, [], ◌∷◌, ◌++◌}
-use mathlib.Core.Option.{none, some}
 use mathlib.Core.Logic.{⊎_elim}
 use Prim.Native.Nat.{ℕ, ◌+◌, ◌-◌, ◌*◌, ◌/◌, ◌≤◌, ◌<◌, min}
 use native.Mathlib.Omega.{arith}
@@ -28,13 +28,13 @@ use Rattle.chains.specs.declared.cursors.ChainStep.{ChainStep}
 use Rattle.chains.specs.declared.cursors.ChainStep.TheVariants.{Takes, Hops, Ends}
 use Rattle.chains.proofs.WalkLaws.{ended, hopped, taken}
 use Rattle.chains.proofs.CountLaws.{hop-level, take_level}
-use Rattle.files.specs.declared.pieces.Piece.{Piece}
-use Rattle.files.specs.declared.pieces.Piece.TheVariants.{Held, Refused}
 use Rattle.files.specs.declared.pieces.Turn.TheVariants.{Piece as APiece, Hop, Refused as Stopped, End}
 use Rattle.files.specs.Reads.{joining, extents_bytes, visited}
 use Rattle.files.specs.Inner.Pieces.{sectors_read, in_front, joined, rest_of, Lies, weighed_at, Weighed, Turned}
 use Rattle.files.proofs.ExtentLaws.{extent_runs, extent-runs}
 use Rattle.disc.specs.Parts.{Bytes}
+use Rattle.files.specs.declared.pieces.Piece.{Piece}
+use Rattle.disc.specs.declared.refusals.CountedRefusal.{CountedRefusal}
 
 -- ---- what an extent gives
 
@@ -58,25 +58,25 @@ joined-runs d b k e n want h more = rw e (⊎_elim
     (split want k))
 
 module _ (image : List ℕ) (m : Mount) (e : AllocExtent) (want : ℕ) where
-  pub weigh-type : (e.extent_type ≡ 0 → ⊥) → Weighed image m e want (Refused Unsupported 0)
+  pub weigh-type : (e.extent_type ≡ 0 → ⊥) → Weighed image m e want (Err (record { why = Unsupported; count = 0 }))
   unfolding extents_bytes
   weigh-type h es = rw (ne_eqb _ 0 h) (ran-refuse (disc image) Unsupported)
 
   module _ (h : e.extent_type ≡ 0) where
-    pub weigh-nowhere : placed m e.partition_ref e.block.0 ≡ none → Weighed image m e want (Refused Unsupported 0)
+    pub weigh-nowhere : placed m e.partition_ref e.block.0 ≡ None → Weighed image m e want (Err (record { why = Unsupported; count = 0 }))
     unfolding extents_bytes
     weigh-nowhere k es = rw (eq-eqb _ 0 h, k) (ran-refuse (disc image) Unsupported)
 
-    module _ {s : ℕ} (p : placed m e.partition_ref e.block.0 ≡ some s) where
+    module _ {s : ℕ} (p : placed m e.partition_ref e.block.0 ≡ Some s) where
       extent-first : (es : List AllocExtent) → rest_of image m (e ∷ es) want
           ≡ followed (extent_runs image s e.length want) (λ b. ran (disc image) (joining want b (extents_bytes m es (want - length b))))
       unfolding extents_bytes
       extent-first es = rw (eq-eqb _ 0 h, p, ran_then, extent-runs image _ s e.length want refl)
 
-      pub weigh-missing : held_from image s < sectors_read e.length want → Weighed image m e want (Refused Io (held_from image s + 1))
+      pub weigh-missing : held_from image s < sectors_read e.length want → Weighed image m e want (Err (record { why = Io; count = (held_from image s + 1) }))
       weigh-missing k es = extent-first es ∙ rw (lt-leb (sectors_read e.length want) (held_from image s) k)
 
-      pub weigh-held : sectors_read e.length want ≤ held_from image s → Weighed image m e want (Held (2048 * s) (sectors_read e.length want) (min e.length want))
+      pub weigh-held : sectors_read e.length want ≤ held_from image s → Weighed image m e want (Ok (record { from = (2048 * s); sectors = (sectors_read e.length want); bytes = (min e.length want) }))
       weigh-held k =
           let y : Lies image (2048 * s) (min e.length want) want = record { small = omega arith; within = fits_in (length image) s e.length want (sectors_read e.length want) refl k } in
           record {
@@ -88,7 +88,7 @@ module _ (image : List ℕ) (m : Mount) (e : AllocExtent) (want : ℕ) where
             sectors = refl;
           }
 
-      pub weigh-there : {w : Piece} → w ≡ weighed_at image s e.length want → Weighed image m e want w
+      pub weigh-there : {w : Result Piece CountedRefusal} → w ≡ weighed_at image s e.length want → Weighed image m e want w
       weigh-there f = rw f (⊎_elim
           (λ (k : sectors_read e.length want ≤ held_from image s). rw (le-leb (sectors_read e.length want) (held_from image s) k) (weigh-held k))
           (λ (k : held_from image s < sectors_read e.length want). rw (lt-leb (sectors_read e.length want) (held_from image s) k) (weigh-missing k))
@@ -97,10 +97,10 @@ module _ (image : List ℕ) (m : Mount) (e : AllocExtent) (want : ℕ) where
 -- ---- the returns of `weigh_at`
 
 module _ (image : List ℕ) (s size want : ℕ) {n : ℕ} (e : n ≡ sectors_read size want) {h : ℕ} (f : h ≡ held_from image s) where
-  pub at-missing : h < n → Refused Io (h + 1) ≡ weighed_at image s size want
+  pub at-missing : h < n → Err (record { why = Io; count = (h + 1) }) ≡ weighed_at image s size want
   at-missing k = rw (← e, ← f, lt-leb n h k)
 
-  pub at_held : n ≤ h → {k : ℕ} → k ≡ min size want → Held (2048 * s) n k ≡ weighed_at image s size want
+  pub at_held : n ≤ h → {k : ℕ} → k ≡ min size want → Ok (record { from = (2048 * s); sectors = n; bytes = k }) ≡ weighed_at image s size want
   at_held k g = rw (← e, ← f, le-leb n h k, g)
 
 -- ---- a turn: r is what `advance` found, and w what `weigh` did
@@ -121,17 +121,17 @@ module _ (image : List ℕ) (m : Mount) (kind : ℕ) (c : ChainCursor) (want : �
   pub turn-hop : {c' : ChainCursor} → r ≡ Hops c' → Turned image m kind c want (Hop c')
   turn-hop e = let q = hopped image m kind c p b e in record { runs = rw q.list; list = q.list; gone = (hop-level image m kind c p e).even; less = q.less }
 
-  module _ {x : AllocExtent} {c' : ChainCursor} (e : r ≡ Takes x c') (w : Piece) (v : Weighed image m x want w) where
-    pub turn-refused : {why : Refusal} {n : ℕ} → w ≡ Refused why n → Turned image m kind c want (Stopped why n)
+  module _ {x : AllocExtent} {c' : ChainCursor} (e : r ≡ Takes x c') (w : Result Piece CountedRefusal) (v : Weighed image m x want w) where
+    pub turn-refused : {why : Refusal} {n : ℕ} → w ≡ Err (record { why = why; count = n }) → Turned image m kind c want (Stopped why n)
     turn-refused {why} {n} f =
         let q = taken image m kind c p b e in
-        let u : Weighed image m x want (Refused why n) = rw f at v in
+        let u : Weighed image m x want (Err (record { why = why; count = n })) = rw f at v in
         rw q.list (u _)
 
-    pub turn-piece : {from n k : ℕ} → w ≡ Held from n k → Turned image m kind c want (APiece from n k c')
+    pub turn-piece : {from n k : ℕ} → w ≡ Ok (record { from = from; sectors = n; bytes = k }) → Turned image m kind c want (APiece from n k c')
     turn-piece {from} {n} {k} f =
         let q = taken image m kind c p b e in
-        let u : Weighed image m x want (Held from n k) = rw f at v in
+        let u : Weighed image m x want (Ok (record { from = from; sectors = n; bytes = k })) = rw f at v in
         record {
           runs = rw q.list (u.runs _);
           lies = u.lies;

@@ -1,8 +1,8 @@
 -- The promises of files: what follows from the contracts and the definitions alone. Assumes nothing.
+use Rattle.std.specs.Prelude.{Option, Some, None, Result, Ok, Err}
 use mathlib.Core.Path.{◌≡◌, refl, ap, sym, ◌∙◌}
 use mathlib.Core.Bool.{Bool, true, false}
 use mathlib.Core.List.{List, [], ◌∷◌, ◌++◌}
-use mathlib.Core.Option.{Option, none, some}
 use Prim.Native.Nat.{ℕ, ◌+◌, ◌*◌, ◌/◌, ◌≤◌, ◌<◌, ◌^◌, min}
 use native.Mathlib.Omega.{arith}
 use lib.ListN.{length, take, drop, get_or, length-append, length-take}
@@ -27,14 +27,11 @@ use Rattle.disc.proofs.PlaceLaws.{unmapped-icb, unmapped-entry, icb-beyond, icb-
 use Rattle.disc.proofs.RanLaws.{ran-done, ran-refuse, ran-there, ran-missing, ran_then, never}
 use Rattle.disc.proofs.ReplyLaws.{replied-one, same-replied}
 use Rattle.records.specs.declared.allocations.LongAd.{LongAd}
-use Rattle.disc.specs.declared.places.PartitionRef.TheVariants.{Unnamed, Named}
 use Rattle.areas.specs.declared.AllocExtent.{AllocExtent}
 use Rattle.areas.specs.declared.AdEnding.TheVariants.{End}
 use Rattle.areas.specs.Areas.{Area, extent, area_at, descriptors, descriptor_at, descriptor_of, size_of}
 use Rattle.areas.proofs.TotalLaws.{area-total}
 use Rattle.entries.specs.FileEntries.{read_entry}
-use Rattle.entries.specs.declared.file_entries.EntryRead.{EntryRead}
-use Rattle.entries.specs.declared.file_entries.EntryRead.TheVariants.{Read, Refused}
 use Rattle.chains.specs.Chains.{continued}
 use Rattle.chains.proofs.AskedLaws.{done-asks, pick-asks, then-asks, chain-asks}
 use Rattle.chains.proofs.TotalLaws.{chain-within}
@@ -49,6 +46,7 @@ use Rattle.files.proofs.BoundLaws.{extents-cut, extents-bound}
 use Rattle.areas.specs.Totals.{total}
 use Rattle.chains.specs.Totals.{AtMost}
 use Rattle.files.specs.Example.{example, own, first, second}
+use Rattle.entries.specs.declared.file_entries.FileEntry.{FileEntry}
 
 -- ---- RULES 2.7: images that agree on the sectors that a read asks for give the same reply and the same memory
 
@@ -97,9 +95,9 @@ module _ (d : Disc) (m : Mount) (icb : LongAd) {x : Located} (h : (ran d (entry_
   unfolding entry_at
   entry_runs = by (eqb icb.length 0) (icb_placed m icb.location.partition_ref icb.location.block) h
     where
-      parsed : (at : ℕ) (s : List ℕ) (r : EntryRead) → (ran d (located at s r)).outcome ≡ answered x → after 1 (ran d (located at s r)) ≡ record { outcome = answered x; count = 1 }
-      parsed at s (Refused r) q = never (sym (ap (λ (y : Ran Located). y.outcome) (ran-refuse d r)) ∙ q)
-      parsed at s (Read e) q = rw ran-done (ap (λ o. record { outcome = o; count = 1 }) (sym (ap (λ (y : Ran Located). y.outcome) (ran-done d (record { at = at; sector = s; entry = e }))) ∙ q))
+      parsed : (at : ℕ) (s : List ℕ) (r : Result FileEntry Refusal) → (ran d (located at s r)).outcome ≡ answered x → after 1 (ran d (located at s r)) ≡ record { outcome = answered x; count = 1 }
+      parsed at s (Err r) q = never (sym (ap (λ (y : Ran Located). y.outcome) (ran-refuse d r)) ∙ q)
+      parsed at s (Ok e) q = rw ran-done (ap (λ o. record { outcome = o; count = 1 }) (sym (ap (λ (y : Ran Located). y.outcome) (ran-done d (record { at = at; sector = s; entry = e }))) ∙ q))
 
       sector : (at : ℕ) (y : Held) → d at ≡ y → (ran d (entry_in (is_checked m) at)).outcome ≡ answered x → ran d (entry_in (is_checked m) at) ≡ record { outcome = answered x; count = 1 }
       sector at (holds b) e q =
@@ -110,8 +108,8 @@ module _ (d : Disc) (m : Mount) (icb : LongAd) {x : Located} (h : (ran d (entry_
       by : (t : Bool) (o : Option ℕ) → (ran d (pick t (refuse Malformed) (standing o (entry_in (is_checked m))))).outcome ≡ answered x
           → ran d (pick t (refuse Malformed) (standing o (entry_in (is_checked m)))) ≡ record { outcome = answered x; count = 1 }
       by true o q = never (sym (ap (λ (y : Ran Located). y.outcome) (ran-refuse d Malformed)) ∙ q)
-      by false none q = never (sym (ap (λ (y : Ran Located). y.outcome) (ran-refuse d Unsupported)) ∙ q)
-      by false (some at) q = sector at (d at) refl q
+      by false None q = never (sym (ap (λ (y : Ran Located). y.outcome) (ran-refuse d Unsupported)) ∙ q)
+      by false (Some at) q = sector at (d at) refl q
 
   file-runs : ran d (file_at m icb) ≡ after 1 (ran d (resolved (entry_mount m icb) x))
   unfolding file_at
@@ -134,8 +132,8 @@ held-total image m [] = omega arith
 held-total image m (e ∷ es) = by (placed m e.partition_ref e.block.0) (held-total image m es)
   where
     by : (o : Option ℕ) → length (extents_hold image m es) ≤ total es → length (held_at image e.length o ++ extents_hold image m es) ≤ e.length + total es
-    by none h = omega arith
-    by (some s) h = simp (length-append, length-take) (omega arith)
+    by None h = omega arith
+    by (Some s) h = simp (length-append, length-take) (omega arith)
 
 -- cutting where the read stops is cutting the joined bytes at the end: es are the file's extents, read as the entry's own descriptors are
 module _ (image : List ℕ) (m : Mount) (icb : LongAd) {x : Located} (h : (ran (disc image) (entry_at m icb)).outcome ≡ answered x) (n : is_embedded x ≡ false)
@@ -189,16 +187,16 @@ example-visits = (refl, refl, refl)
 
 -- the three sectors that it takes are there, in the partition of its entry
 module _ (image : List ℕ) (m : Mount) (icb : LongAd) (a : 2 ≤ held_from image (sector_of (entry_mount m icb).start 10)) (b : 1 ≤ held_from image (sector_of (entry_mount m icb).start 20)) where
-  held-1 : (want : ℕ) → sectors_read 3000 want ≤ 2 → HeldPiece image (own m icb) (extent 3000 0 10 Unnamed) want (2048 * sector_of (own m icb).start 10) (sectors_read 3000 want) (min 3000 want)
+  held-1 : (want : ℕ) → sectors_read 3000 want ≤ 2 → HeldPiece image (own m icb) (extent 3000 0 10 None) want (2048 * sector_of (own m icb).start 10) (sectors_read 3000 want) (min 3000 want)
   unfolding placed
-  held-1 want h = weigh-held image (own m icb) (extent 3000 0 10 Unnamed) want refl refl (omega arith)
+  held-1 want h = weigh-held image (own m icb) (extent 3000 0 10 None) want refl refl (omega arith)
 
-  held-2 : (want : ℕ) → sectors_read 100 want ≤ 1 → HeldPiece image (own m icb) (extent 100 0 20 Unnamed) want (2048 * sector_of (own m icb).start 20) (sectors_read 100 want) (min 100 want)
+  held-2 : (want : ℕ) → sectors_read 100 want ≤ 1 → HeldPiece image (own m icb) (extent 100 0 20 None) want (2048 * sector_of (own m icb).start 20) (sectors_read 100 want) (min 100 want)
   unfolding placed
-  held-2 want h = weigh-held image (own m icb) (extent 100 0 20 Unnamed) want refl refl (omega arith)
+  held-2 want h = weigh-held image (own m icb) (extent 100 0 20 None) want refl refl (omega arith)
 
   reads-3050 : rest_of image (own m icb) example 3050 ≡ record { outcome = answered ((first image m icb) 3000 ++ (second image m icb) 50); count = 3 }
-  reads-3050 = (held-1 3050 (omega arith)).runs _ ∙ rw ((held-2 50 (omega arith)).runs (extent 5000 1 30 Unnamed ∷ []))
+  reads-3050 = (held-1 3050 (omega arith)).runs _ ∙ rw ((held-2 50 (omega arith)).runs (extent 5000 1 30 None ∷ []))
 
   reads-0 : rest_of image (own m icb) example 0 ≡ record { outcome = answered []; count = 1 }
   reads-0 = (held-1 0 (omega arith)).runs _
@@ -206,7 +204,7 @@ module _ (image : List ℕ) (m : Mount) (icb : LongAd) (a : 2 ≤ held_from imag
   reads-3101 : rest_of image (own m icb) example 3101 ≡ record { outcome = refused Unsupported; count = 3 }
   reads-3101 =
       (held-1 3101 (omega arith)).runs _
-      ∙ rw ((held-2 101 (omega arith)).runs (extent 5000 1 30 Unnamed ∷ []), weigh-type image (own m icb) (extent 5000 1 30 Unnamed) 1 (λ z. omega arith) [])
+      ∙ rw ((held-2 101 (omega arith)).runs (extent 5000 1 30 None ∷ []), weigh-type image (own m icb) (extent 5000 1 30 None) 1 (λ z. omega arith) [])
 
   module _ {x : Located} (h : (ran (disc image) (entry_at m icb)).outcome ≡ answered x) (n : x.entry.kind ≡ 0)
       (l : area_at 0 x.sector x.entry.area_at x.entry.area_length ≡ record { extents = example; ending = End }) where
@@ -232,26 +230,26 @@ module _ (image : List ℕ) (m : Mount) (icb : LongAd) (a : 2 ≤ held_from imag
 -- ---- how the entry's own descriptors are read: one that names its partition goes by that, and a short one by the partition in which the entry stands
 
 module _ (m : Mount) (icb : LongAd) (block : ℕ) where
-  pub named-own : (p : ℕ) → placed (entry_mount m icb) (Named p) block ≡ placed m (Named p) block
+  pub named-own : (p : ℕ) → placed (entry_mount m icb) (Some p) block ≡ placed m (Some p) block
   unfolding placed start_for mapped_start at_entry
   named-own p = by (eqb m.maps 0) refl
     where
       mapped : (o : Option ℕ) → eqb m.maps 0 ≡ false → crossing block (start_for (started_at m o) p) ≡ crossing block (start_for m p)
-      mapped none e = refl
-      mapped (some s) e = rw e
+      mapped None e = refl
+      mapped (Some s) e = rw e
 
-      by : (t : Bool) → eqb m.maps 0 ≡ t → placed (entry_mount m icb) (Named p) block ≡ placed m (Named p) block
-      by true e = ap (λ x. placed x (Named p) block) (unmapped-entry m (eqb-true _ _ e) icb.location.partition_ref)
+      by : (t : Bool) → eqb m.maps 0 ≡ t → placed (entry_mount m icb) (Some p) block ≡ placed m (Some p) block
+      by true e = ap (λ x. placed x (Some p) block) (unmapped-entry m (eqb-true _ _ e) icb.location.partition_ref)
       by false e = mapped (icb_start m icb.location.partition_ref) e
 
-  pub short-own : {s : ℕ} → icb_placed m icb.location.partition_ref icb.location.block ≡ some s
-      → placed (entry_mount m icb) Unnamed block ≡ icb_placed m icb.location.partition_ref block
+  pub short-own : {s : ℕ} → icb_placed m icb.location.partition_ref icb.location.block ≡ Some s
+      → placed (entry_mount m icb) None block ≡ icb_placed m icb.location.partition_ref block
   unfolding placed at_entry icb_placed
   short-own {s} e = by (icb_start m icb.location.partition_ref) e
     where
-      by : (o : Option ℕ) → crossing icb.location.block o ≡ some s → placed (started_at m o) Unnamed block ≡ crossing block o
-      by none q = absurd (let z : ◌≡◌ {A = ℕ} 0 1 = cc in omega arith)
-      by (some t) q = refl
+      by : (o : Option ℕ) → crossing icb.location.block o ≡ Some s → placed (started_at m o) None block ≡ crossing block o
+      by None q = absurd (let z : ◌≡◌ {A = ℕ} 0 1 = cc in omega arith)
+      by (Some t) q = refl
 
 -- ---- a volume without maps: whatever the ICB's reference, entry, chain and extents are all read by the volume's own mount
 

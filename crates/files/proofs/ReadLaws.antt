@@ -1,8 +1,9 @@
 -- A read, put together from its passes. Assumes nothing.
-use mathlib.Core.Path.{◌≡◌, refl, ap, sym, ◌∙◌}
+use Rattle.std.specs.Prelude.{Result, Ok, Err}
+use mathlib.Core.Path.{◌≡◌, refl, ap, ◌∙◌}
 use mathlib.Core.Bool.{true}
 use mathlib.Core.List.{List, ◌++◌}
-use Prim.Native.Nat.{ℕ, ◌+◌, ◌-◌, ◌≤◌, ◌<◌, ◌^◌, min}
+use Prim.Native.Nat.{ℕ, ◌+◌, ◌-◌, ◌≤◌, ◌<◌, min}
 use native.Mathlib.Omega.{arith}
 use lib.ListN.{length, take, drop, length-drop}
 use lib.Seq.{length-take-le}
@@ -24,16 +25,15 @@ use Rattle.chains.specs.Inner.Walks.{left}
 use Rattle.chains.specs.declared.cursors.ChainCursor.{ChainCursor}
 use Rattle.files.specs.declared.icbs.FilePlace.{FilePlace}
 use Rattle.files.specs.declared.extents.Sizes.{Sizes}
-use Rattle.files.specs.declared.extents.Measured.{Measured}
-use Rattle.files.specs.declared.extents.Measured.TheVariants.{Sized, Refused}
 use Rattle.files.specs.Files.{entry_mount, file_bytes}
 use Rattle.files.specs.Inner.Pieces.{rest_at}
 use Rattle.files.specs.Inner.Passes.{sized_by, sized, Measures, Copied}
 use Rattle.files.specs.Inner.Passes.Came.{comes, stops}
 use Rattle.files.specs.Inner.Wholes.{embedded_in, embedded_run, front_of, EmbeddedFile, ChainedFile, Resolves}
-use Rattle.files.specs.declared.resolves.Resolved.{Resolved}
-use Rattle.files.specs.declared.resolves.Resolved.TheVariants.{Embedded, Chained, Refused as Unresolved}
 use Rattle.files.proofs.BoundLaws.{same_bytes}
+use Rattle.disc.specs.declared.refusals.CountedRefusal.{CountedRefusal}
+use Rattle.files.specs.declared.resolves.Resolved.TheVariants.{Embedded, Chained}
+use Rattle.files.specs.declared.resolves.Resolved.{Resolved}
 
 -- a reply is right where what is answered is right
 pub replied-as : {full : Refusal} {r s : Ran (List ℕ)} → r ≡ s → {a b : List ℕ} {x : Reply} → Replied full s a b x → Replied full r a b x
@@ -101,30 +101,30 @@ too_many full r before h k = by r.outcome h k
     by (refused a) h k = absurd (let z : ◌≡◌ {A = ℕ} 0 1 = cc in omega arith)
 
 -- t is what `measure` found
-module _ (image : List ℕ) (v : Mount) (kind : ℕ) (first : ChainCursor) (want : ℕ) (t : Measured) (q : Measures image v kind first want t) where
+module _ (image : List ℕ) (v : Mount) (kind : ℕ) (first : ChainCursor) (want : ℕ) (t : Result Sizes CountedRefusal) (q : Measures image v kind first want t) where
   abbrev rest : ℕ → Ran (List ℕ)
   rest w = rest_at image v kind first w
 
-  pub told-no : {why : Refusal} {j : ℕ} → t ≡ Refused why j → ToldRefused (rest want) why j
+  pub told-no : {why : Refusal} {j : ℕ} → t ≡ Err (record { why = why; count = j }) → ToldRefused (rest want) why j
   unfolding sized
   told-no {why} {j} f =
-      let p : Measures image v kind first want (Refused why j) = rw f at q in
+      let p : Measures image v kind first want (Err (record { why = why; count = j })) = rw f at q in
       told-refused (rest want).outcome (rest want).count why j p
 
-  pub told-yes : {s : Sizes} → t ≡ Sized s → Told (rest want) s.size s.count
+  pub told-yes : {s : Sizes} → t ≡ Ok s → Told (rest want) s.size s.count
   unfolding sized
   told-yes {s} f =
-      let p : Measures image v kind first want (Sized s) = rw f at q in
+      let p : Measures image v kind first want (Ok s) = rw f at q in
       told-sized (rest want).outcome (rest want).count s.size s.count p.came
 
   module _ (full : Refusal) (n : ℕ) (out : List ℕ) where
-    pub whole-refused : {why : Refusal} {j : ℕ} → t ≡ Refused why j → {a : ℕ} → a ≡ number why → {k : ℕ} → k ≡ reported (n + j) → {x : Reply} → x ≡ record { answer = a; count = k; length = 0 }
+    pub whole-refused : {why : Refusal} {j : ℕ} → t ≡ Err (record { why = why; count = j }) → {a : ℕ} → a ≡ number why → {k : ℕ} → k ≡ reported (n + j) → {x : Reply} → x ≡ record { answer = a; count = k; length = 0 }
         → Replied full (after n (rest want)) out out x
     whole-refused {why} f g {k} h e =
         let d = told-no f in
         rw d.outcome (reply-refused why (n + (rest want).count) k (omega (arith, d.count)) (e ∙ rw g))
 
-    module _ {s : Sizes} (f : t ≡ Sized s) {k : ℕ} (g : k ≡ reported (n + s.count)) where
+    module _ {s : Sizes} (f : t ≡ Ok s) {k : ℕ} (g : k ≡ reported (n + s.count)) where
       counted : reported (n + (rest want).count) ≡ k
       counted = let d = told-yes f in omega (arith, d.count)
 
@@ -151,17 +151,17 @@ module _ (image : List ℕ) (v : Mount) (kind : ℕ) (first : ChainCursor) (want
 
 -- ---- a file: r is what `resolve` found
 
-module _ (full : Refusal) (image : List ℕ) (m : Mount) (icb : LongAd) (out : List ℕ) (r : Resolved) (y : Resolves image m icb r) where
+module _ (full : Refusal) (image : List ℕ) (m : Mount) (icb : LongAd) (out : List ℕ) (r : Result Resolved CountedRefusal) (y : Resolves image m icb r) where
   abbrev file : Ran (List ℕ)
   file = ran (disc image) (file_bytes m icb)
 
-  pub read-refused : {why : Refusal} {n : ℕ} → r ≡ Unresolved why n → {a : ℕ} → a ≡ number why → {x : Reply} → x ≡ record { answer = a; count = n; length = 0 } → Replied full file out out x
+  pub read-refused : {why : Refusal} {n : ℕ} → r ≡ Err (record { why = why; count = n }) → {a : ℕ} → a ≡ number why → {x : Reply} → x ≡ record { answer = a; count = n; length = 0 } → Replied full file out out x
   unfolding file_bytes
   read-refused {why} {n} e g f =
-      let q : Resolves image m icb (Unresolved why n) = rw e at y in
+      let q : Resolves image m icb (Err (record { why = why; count = n })) = rw e at y in
       rw (ran_then, q.runs) (reply-refused why n n (omega (arith, q.few)) (f ∙ rw g))
 
-  module _ {p : FilePlace} (e : r ≡ Embedded p) where
+  module _ {p : FilePlace} (e : r ≡ Ok (Embedded p)) where
     in_entry : EmbeddedFile image m icb p
     in_entry = rw e at y
 
@@ -169,7 +169,7 @@ module _ (full : Refusal) (image : List ℕ) (m : Mount) (icb : LongAd) (out : L
     unfolding file_bytes
     read-in q = replied-as (rw (ran_then, in_entry.runs, ran-done, in_entry.bytes)) q
 
-  module _ {p : FilePlace} {n : ℕ} (e : r ≡ Chained p n) where
+  module _ {p : FilePlace} {n : ℕ} (e : r ≡ Ok (Chained p n)) where
     in-chain : ChainedFile image m icb p n
     in-chain = rw e at y
 
@@ -181,8 +181,8 @@ module _ (full : Refusal) (image : List ℕ) (m : Mount) (icb : LongAd) (out : L
         replied-as (rw (ran_then, in-chain.runs, ← w, o, g)) q
 
 -- the entry's area, or the embedded file, lies in the image
-pub place_inside : (image : List ℕ) (m : Mount) (icb : LongAd) (r : Resolved) → Resolves image m icb r → {p : FilePlace} → r ≡ Embedded p → p.at + p.size ≤ length image
+pub place_inside : (image : List ℕ) (m : Mount) (icb : LongAd) (r : Result Resolved CountedRefusal) → Resolves image m icb r → {p : FilePlace} → r ≡ Ok (Embedded p) → p.at + p.size ≤ length image
 place_inside image m icb r y {p} e = let q : EmbeddedFile image m icb p = rw e at y in q.inside
 
-pub chain-little : (image : List ℕ) (m : Mount) (icb : LongAd) (r : Resolved) → Resolves image m icb r → {p : FilePlace} {n : ℕ} → r ≡ Chained p n → {front : ChainCursor} → front ≡ front_of p → front.left ≤ 2048
+pub chain-little : (image : List ℕ) (m : Mount) (icb : LongAd) (r : Result Resolved CountedRefusal) → Resolves image m icb r → {p : FilePlace} {n : ℕ} → r ≡ Ok (Chained p n) → {front : ChainCursor} → front ≡ front_of p → front.left ≤ 2048
 chain-little image m icb r y {p} {n} e g = let q : ChainedFile image m icb p n = rw e at y in rw g q.small

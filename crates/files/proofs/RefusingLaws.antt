@@ -1,4 +1,5 @@
 -- Which refusals reading a file says by itself: 2 and 4, and 10 where bodies are checked. Assumes nothing.
+use Rattle.std.specs.Prelude.{Result, Ok, Err}
 use mathlib.Core.Path.{◌≡◌, refl, sym, subst, ◌∙◌}
 use mathlib.Core.Bool.{Bool, true}
 use mathlib.Core.List.{List, [], ◌∷◌}
@@ -16,8 +17,6 @@ use Rattle.disc.proofs.OnlyLaws.{done-only, refuse-only, ask-only, pick-only, th
 use Rattle.disc.proofs.PlaceLaws.{entry-checked}
 use Rattle.records.specs.declared.allocations.LongAd.{LongAd}
 use Rattle.tags.specs.Tags.{read_aed}
-use Rattle.tags.specs.declared.AedRead.{AedRead}
-use Rattle.tags.specs.declared.AedRead.TheVariants.{Header, NoHeader}
 use Rattle.tags.proofs.HeadLaws.{aed-refused}
 use Rattle.areas.specs.declared.AllocExtent.{AllocExtent}
 use Rattle.areas.specs.declared.AdContinuation.{AdContinuation}
@@ -26,13 +25,13 @@ use Rattle.areas.specs.declared.AdEnding.TheVariants.{End, Continuation, Refused
 use Rattle.areas.specs.Areas.{Area, area_at}
 use Rattle.areas.proofs.AreaLaws.{area-refused}
 use Rattle.entries.specs.FileEntries.{read_entry}
-use Rattle.entries.specs.declared.file_entries.EntryRead.{EntryRead}
-use Rattle.entries.specs.declared.file_entries.EntryRead.TheVariants.{Read, Refused as NoEntry}
 use Rattle.entries.proofs.EntryLaws.{read-entry-refused}
 use Rattle.chains.specs.Chains.{area_in, next_area, continued, area_from}
 use Rattle.files.specs.Reads.{joining, extent_bytes, extents_bytes}
 use Rattle.files.specs.Files.{Located, located, entry_at, entry_mount, is_embedded, chain_of, file_bytes, file_part, file_extents, File, file_at, content_of}
 use Rattle.disc.specs.Refusing.{Refuses, Any}
+use Rattle.tags.specs.declared.AllocationExtentDescriptor.{AllocationExtentDescriptor}
+use Rattle.entries.specs.declared.file_entries.FileEntry.{FileEntry}
 
 -- how an area ends
 unfoldable pub EndsBy : (Refusal → Type 0) → AdEnding → Type 0
@@ -63,9 +62,9 @@ module _ (P : Refusal → Type 0) (malformed : P Malformed) (unsupported : P Uns
   area-only : (check : Bool) → (check ≡ true → P BadCrc) → (kind size : ℕ) (s : List ℕ) → Refuses P (λ (x : Area). Ends P x.ending) (area_in kind size s (read_aed check s))
   area-only check crc kind size s = by (read_aed check s) refl
     where
-      by : (r : AedRead) → read_aed check s ≡ r → Refuses P (λ (x : Area). Ends P x.ending) (area_in kind size s r)
-      by (NoHeader r) e = refuse-only (aed-refused check s P malformed crc (sym e) refl)
-      by (Header h) e =
+      by : (r : Result AllocationExtentDescriptor Refusal) → read_aed check s ≡ r → Refuses P (λ (x : Area). Ends P x.ending) (area_in kind size s r)
+      by (Err r) e = refuse-only (aed-refused check s P malformed crc (sym e) refl)
+      by (Ok h) e =
           pick-only (ltb size (24 + h.length_of_allocation_descriptors)) (refuse-only malformed) (done-only (area-ends kind s 24 h.length_of_allocation_descriptors))
 
   from-only : (check : Bool) → (check ≡ true → P BadCrc) → (kind length at : ℕ) → Refuses P (λ (x : Area). Ends P x.ending) (area_from check kind length at)
@@ -113,9 +112,9 @@ module _ (P : Refusal → Type 0) (malformed : P Malformed) (unsupported : P Uns
       pick-only (eqb icb.length 0) (refuse-only malformed)
       (standing-only P unsupported (icb_placed m icb.location.partition_ref icb.location.block) (λ at. ask-only (λ s. by at s (read_entry (is_checked m) s) refl)))
     where
-      by : (at : ℕ) (s : List ℕ) (x : EntryRead) → x ≡ read_entry (is_checked m) s → Refuses P Any (located at s x)
-      by at s (Read e) h = done-only tt
-      by at s (NoEntry r) h = refuse-only (read-entry-refused (is_checked m) s P malformed crc h refl)
+      by : (at : ℕ) (s : List ℕ) (x : Result FileEntry Refusal) → x ≡ read_entry (is_checked m) s → Refuses P Any (located at s x)
+      by at s (Ok e) h = done-only tt
+      by at s (Err r) h = refuse-only (read-entry-refused (is_checked m) s P malformed crc h refl)
 
   chain-only : (m : Mount) → (is_checked m ≡ true → P BadCrc) → (x : Located) → Refuses P Any (chain_of m x)
   chain-only m crc x =

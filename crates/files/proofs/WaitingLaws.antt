@@ -1,9 +1,9 @@
 -- RULES 2.11 to 2.13, of a read of extents that waits for its image: which sector it waits for, and by which refusals it can end. Assumes nothing.
+use Rattle.std.specs.Prelude.{Option, Some, None}
 use mathlib.Core.Path.{◌≡◌, refl, ap, sym, ◌∙◌}
 use mathlib.Core.Bool.{Bool, true, false}
 use mathlib.Core.List.{List, [], ◌∷◌, ◌++◌}
 use mathlib.Core.Logic.{⊎_elim}
-use mathlib.Core.Option.{Option, none, some}
 use Prim.Native.Nat.{ℕ, zero, suc, ◌+◌, ◌-◌, ◌*◌, ◌/◌, ◌≤◌, ◌<◌, min}
 use native.Mathlib.Nat.{zero-add, add-zero}
 use native.Mathlib.Omega.{arith}
@@ -86,9 +86,9 @@ pub data Ended : Outcome (List ℕ) → Type 0 where
 module _ (image : List ℕ) (m : Mount) where
   data Weight (e : AllocExtent) (want : ℕ) : Type 0 where
     off : ((es : List AllocExtent) → rest_of image m (e ∷ es) want ≡ record { outcome = refused Unsupported; count = 0 }) → Weight e want
-    gone : (at : ℕ) → placed m e.partition_ref e.block.0 ≡ some at → held_from image at < sectors_read e.length want
+    gone : (at : ℕ) → placed m e.partition_ref e.block.0 ≡ Some at → held_from image at < sectors_read e.length want
         → ((es : List AllocExtent) → rest_of image m (e ∷ es) want ≡ record { outcome = refused Io; count = held_from image at + 1 }) → Weight e want
-    there : (at : ℕ) → placed m e.partition_ref e.block.0 ≡ some at → sectors_read e.length want ≤ held_from image at → (b : List ℕ)
+    there : (at : ℕ) → placed m e.partition_ref e.block.0 ≡ Some at → sectors_read e.length want ≤ held_from image at → (b : List ℕ)
         → ((es : List AllocExtent) → rest_of image m (e ∷ es) want ≡ joined b (sectors_read e.length want) (min e.length want) want (rest_of image m es (want - min e.length want))) → Weight e want
 
   weight : (e : AllocExtent) (want : ℕ) → Weight e want
@@ -99,8 +99,8 @@ module _ (image : List ℕ) (m : Mount) where
       typed true p = in_place (placed m e.partition_ref e.block.0) refl
         where
           in_place : (o : Option ℕ) → placed m e.partition_ref e.block.0 ≡ o → Weight e want
-          in_place none g = off (weigh-nowhere image m e want (eqb-true _ _ p) g)
-          in_place (some at) g = ⊎_elim
+          in_place None g = off (weigh-nowhere image m e want (eqb-true _ _ p) g)
+          in_place (Some at) g = ⊎_elim
               (λ (h : sectors_read e.length want ≤ held_from image at). there at g h _ (weigh-held image m e want (eqb-true _ _ p) g h).runs)
               (λ (h : held_from image at < sectors_read e.length want). gone at g h (weigh-missing image m e want (eqb-true _ _ p) g h))
               (split (sectors_read e.length want) (held_from image at))

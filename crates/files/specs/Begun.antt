@@ -1,6 +1,5 @@
 -- Which extents a read begins (RULES 7.6), stated by reads alone. `visited`, the number in the bound of a read's sectors, is proved to be this one.
 use Rattle.std.specs.Prelude.{ℕ, ◌≤◌, ◌<◌, min, ◌≡◌, List, ◌⊎◌, length, take}
-use Rattle.disc.specs.Ask.{outcome}
 use Rattle.disc.specs.Ask.Outcome.{answered}
 use Rattle.disc.specs.Ran.{ran}
 use Rattle.disc.specs.Images.{disc}

@@ -1,8 +1,7 @@
 -- The example of RULES 7.11.
-use Rattle.std.specs.Prelude.{[], List, ◌∷◌, ℕ, ◌*◌, take, drop}
+use Rattle.std.specs.Prelude.{[], List, ◌∷◌, ℕ, ◌*◌, take, drop, None}
 use Rattle.disc.specs.Places.{sector_of}
 use Rattle.disc.specs.declared.places.Mount.{Mount}
-use Rattle.disc.specs.declared.places.PartitionRef.TheVariants.{Unnamed}
 use Rattle.records.specs.declared.allocations.LongAd.{LongAd}
 use Rattle.areas.specs.Areas.{extent}
 use Rattle.areas.specs.declared.AllocExtent.{AllocExtent}
@@ -10,7 +9,7 @@ use Rattle.files.specs.Files.{entry_mount}
 
 -- three short_ads: 3,000 bytes at block 10, 100 at 20, and 5,000 of type 1 at 30
 abbrev pub example : List AllocExtent
-example = extent 3000 0 10 Unnamed ∷ extent 100 0 20 Unnamed ∷ extent 5000 1 30 Unnamed ∷ []
+example = extent 3000 0 10 None ∷ extent 100 0 20 None ∷ extent 5000 1 30 None ∷ []
 
 -- the mount for the extents of a file
 abbrev pub own : Mount → LongAd → Mount

@@ -1,6 +1,5 @@
 -- The sectors of a file's extents, in turn: RULES 2.5 and 2.12.
-use Rattle.std.specs.Prelude.{ℕ, zero, suc, ◌+◌, List, [], ◌∷◌, ◌++◌}
-use Rattle.std.proofs.Math.Option.{Option, none, some}
+use Rattle.std.specs.Prelude.{ℕ, zero, suc, ◌+◌, List, [], ◌∷◌, ◌++◌, Option, Some, None}
 use Rattle.disc.specs.Images.{sectors_for}
 use Rattle.disc.specs.Places.{placed}
 use Rattle.disc.specs.declared.places.Mount.{Mount}
@@ -13,8 +12,8 @@ run (suc n) at = at ∷ run n (at + 1)
 
 -- all sectors of an extent
 abbrev pub sectors_in : ℕ → Option ℕ → List ℕ
-sectors_in size none = []
-sectors_in size (some at) = run (sectors_for size) at
+sectors_in size None = []
+sectors_in size (Some at) = run (sectors_for size) at
 
 -- all sectors of extents in turn
 unfoldable pub extent_sectors : Mount → List AllocExtent → List ℕ

@@ -1,5 +1,5 @@
 -- A file from its ICB: RULES 6.1, 6.2 and 7. This is what the public calls promise.
-use Rattle.std.specs.Prelude.{ℕ, ◌+◌, ◌*◌, min, Bool, List, [], take, drop, eqb}
+use Rattle.std.specs.Prelude.{ℕ, ◌+◌, ◌*◌, min, Bool, List, [], take, drop, eqb, Result, Ok, Err}
 use Rattle.disc.specs.Choice.{pick}
 use Rattle.disc.specs.Ask.{Ask, Outcome, then}
 use Rattle.disc.specs.Ask.Ask.{done, refuse, ask}
@@ -12,10 +12,9 @@ use Rattle.areas.specs.declared.AllocExtent.{AllocExtent}
 use Rattle.areas.specs.Areas.{area_at}
 use Rattle.entries.specs.FileEntries.{read_entry}
 use Rattle.entries.specs.declared.file_entries.FileEntry.{FileEntry}
-use Rattle.entries.specs.declared.file_entries.EntryRead.{EntryRead}
-use Rattle.entries.specs.declared.file_entries.EntryRead.TheVariants.{Read, Refused}
 use Rattle.chains.specs.Chains.{most_continuations, hops, chain}
 use Rattle.files.specs.Reads.{extents_bytes, visited}
+use Rattle.disc.specs.declared.refusals.Refusal.{Refusal}
 
 -- ---- the entry
 
@@ -25,9 +24,9 @@ pub record Located : Type 0 where
   pub sector : List ℕ
   pub entry : FileEntry
 
-abbrev pub located : ℕ → List ℕ → EntryRead → Ask Located
-located at s (Refused r) = refuse r
-located at s (Read e) = done (record { at = at; sector = s; entry = e })
+abbrev pub located : ℕ → List ℕ → Result FileEntry Refusal → Ask Located
+located at s (Err r) = refuse r
+located at s (Ok e) = done (record { at = at; sector = s; entry = e })
 
 abbrev pub entry_in : Bool → ℕ → Ask Located
 entry_in check at = ask at (λ s. located at s (read_entry check s))

@@ -1,6 +1,5 @@
 -- A file's bytes, read from its extents: RULES 7.3 to 7.8.
-use Rattle.std.specs.Prelude.{ℕ, zero, suc, ◌+◌, ◌-◌, ◌*◌, List, [], ◌∷◌, ◌++◌, length, take, drop, eqb, leb}
-use Rattle.std.proofs.Math.Option.{Option, none, some}
+use Rattle.std.specs.Prelude.{ℕ, zero, suc, ◌+◌, ◌-◌, ◌*◌, List, [], ◌∷◌, ◌++◌, length, take, drop, eqb, leb, Option, Some, None}
 use Rattle.disc.specs.Images.{sectors_for}
 use Rattle.disc.specs.Choice.{pick}
 use Rattle.disc.specs.Ask.{Ask, then}
@@ -37,8 +36,8 @@ visited (e ∷ es) want = 1 + pick (leb want e.length) 0 (visited es (want - e.l
 
 -- all bytes of the extents in the image, joined: what a read is cut from
 abbrev pub held_at : List ℕ → ℕ → Option ℕ → List ℕ
-held_at image n none = []
-held_at image n (some s) = take n (drop (2048 * s) image)
+held_at image n None = []
+held_at image n (Some s) = take n (drop (2048 * s) image)
 
 unfoldable pub extents_hold : List ℕ → Mount → List AllocExtent → List ℕ
 extents_hold image m [] = []

@@ -1,14 +1,13 @@
 // A file's extents in two passes: measured, with the refusals and the count; then copied, which can't fail.
 ghost use Rattle.std.specs.Prelude.{◌≡◌, ◌++◌, ◌-◌, ◌≤◌, length, take, drop};
 ghost use Rattle.files.specs.Inner.Pieces.{rest_at};
-ghost use Rattle.files.specs.declared.extents.Measured.TheVariants.{Sized};
 ghost use Rattle.files.specs.Inner.Passes.{Measures, Copied};
 
 use crate::pieces::{Turn, next_piece};
 use chains::cursors::ChainCursor;
 use disc::counts::add_counts;
 use disc::places::Mount;
-use disc::refusals::Refusal;
+use disc::refusals::CountedRefusal;
 
 // What extents come to: their bytes, the sectors asked for, how many extents were begun, and the cursor after the
 // last of them.
@@ -20,31 +19,14 @@ pub(crate) struct Sizes {
     pub behind: ChainCursor,
 }
 
-// The sizes, or a refusal and the sectors asked for.
-#[derive(Clone, Copy)]
-pub(crate) enum Measured {
-    Sized(Sizes),
-    Refused(Refusal, u64),
-}
-
-fn stopped_at(size: u64, count: u64, visits: u64, behind: ChainCursor) -> Measured
-    ensures { result ≡ Sized (record { size = size; count = count; visits = visits; behind = behind }) }
-{
-    Measured::Sized(Sizes {
-        size,
-        count,
-        visits,
-        behind,
-    })
-}
-
+// Measures the extents from a cursor on, for `want` bytes. A refusal has the sectors asked for with it.
 pub(crate) fn measure(
     image: &[u8],
     mount: Mount,
     kind: u8,
     first: ChainCursor,
     want: u64,
-) -> Measured
+) -> Result<Sizes, CountedRefusal>
     requires { first.left ≤ 2048 }
     ensures { Measures image.now mount kind first want result }
 {
@@ -54,8 +36,16 @@ pub(crate) fn measure(
     let mut visits: u64 = 0;
     loop {
         match next_piece(image, mount, kind, c, want - size) {
-            Turn::End => return stopped_at(size, count, visits, c),
-            Turn::Refused(why, n) => return Measured::Refused(why, add_counts(count, n)),
+            Turn::End => return Ok(Sizes {
+                size,
+                count,
+                visits,
+                behind: c,
+            }),
+            Turn::Refused(why, n) => return Err(CountedRefusal {
+                why,
+                count: add_counts(count, n),
+            }),
             Turn::Hop(next) => c = next,
             Turn::Piece {
                 from: _,
@@ -67,7 +57,12 @@ pub(crate) fn measure(
                 size += bytes;
                 visits += 1;
                 if want <= size {
-                    return stopped_at(size, count, visits, next);
+                    return Ok(Sizes {
+                        size,
+                        count,
+                        visits,
+                        behind: next,
+                    });
                 }
                 c = next;
             }

@@ -7,15 +7,15 @@ use areas::AllocExtent;
 use chains::cursors::{ChainCursor, ChainStep, advance};
 use disc::counts::lesser;
 use disc::images::{held_from, sectors_for};
-use disc::places::{Mount, Placed, Sector};
-use disc::refusals::Refusal;
+use disc::places::{Mount, Sector};
+use disc::refusals::{CountedRefusal, Refusal};
 
-// What an extent gives: where it is in the image, the sectors read and the bytes; or a refusal and the sectors asked
-// for.
+// What an extent gives: where it is in the image, the sectors read and the bytes.
 #[derive(Clone, Copy)]
-pub(crate) enum Piece {
-    Held { from: u64, sectors: u64, bytes: u64 },
-    Refused(Refusal, u64),
+pub(crate) struct Piece {
+    pub from: u64,
+    pub sectors: u64,
+    pub bytes: u64,
 }
 
 // What one turn of the walk along a chain gives.
@@ -45,34 +45,39 @@ fn sectors_read(size: u32, want: u64) -> u64
 
 // An extent of `size` bytes from sector `first` on, measured by one division: the image is one slice, so its sectors
 // are all there exactly when the last one is.
-fn weigh_at(image: &[u8], first: Sector, size: u32, want: u64) -> Piece
+fn weigh_at(image: &[u8], first: Sector, size: u32, want: u64) -> Result<Piece, CountedRefusal>
     requires { first.0 < 2 ^ 33 }
     ensures { result ≡ weighed_at image.now first.0 size want }
 {
     let n = sectors_read(size, want);
     let held = held_from(image, first);
     if held < n {
-        return Piece::Refused(Refusal::Io, held + 1);
+        return Err(CountedRefusal {
+            why: Refusal::Io,
+            count: held + 1,
+        });
     }
-    Piece::Held {
+    Ok(Piece {
         from: 2048 * first.0,
         sectors: n,
         bytes: lesser(size as u64, want),
-    }
+    })
 }
 
 // What an extent gives. It must be recorded, and on this volume.
-fn weigh(image: &[u8], mount: Mount, e: AllocExtent, want: u64) -> Piece
+fn weigh(image: &[u8], mount: Mount, e: AllocExtent, want: u64) -> Result<Piece, CountedRefusal>
     ensures { result ≡ weighed_of image.now mount e want }
 {
+    let unsupported = CountedRefusal {
+        why: Refusal::Unsupported,
+        count: 0,
+    };
     if e.extent_type != 0 {
-        return Piece::Refused(Refusal::Unsupported, 0);
+        return Err(unsupported);
     }
-    let reference = e.partition_ref;
-    let block = e.block;
-    match mount.placed(reference, block) {
-        Placed::Nowhere => Piece::Refused(Refusal::Unsupported, 0),
-        Placed::At(first) => weigh_at(image, first, e.length, want),
+    match mount.placed(e.partition_ref, e.block) {
+        None => Err(unsupported),
+        Some(first) => weigh_at(image, first, e.length, want),
     }
 }
 
@@ -84,12 +89,14 @@ pub fn next_piece(image: &[u8], mount: Mount, kind: u8, c: ChainCursor, want: u6
         ChainStep::Ends => Turn::End,
         ChainStep::Hops(next) => Turn::Hop(next),
         ChainStep::Takes(e, next) => match weigh(image, mount, e, want) {
-            Piece::Refused(why, count) => Turn::Refused(why, count),
-            Piece::Held {
-                from,
-                sectors,
-                bytes,
-            } => Turn::Piece {
+            Err(r) => Turn::Refused(r.why, r.count),
+            Ok(
+                Piece {
+                    from,
+                    sectors,
+                    bytes,
+                },
+            ) => Turn::Piece {
                 from: from,
                 sectors: sectors,
                 bytes: bytes,

@@ -7,7 +7,7 @@ ghost use Rattle.files.specs.Files.{file_bytes};
 ghost use Rattle.files.specs.Inner.Pieces.{rest_at};
 ghost use Rattle.files.specs.Inner.Wholes.{embedded_run};
 
-use crate::extents::{Measured, copy, copy_piece, measure};
+use crate::extents::{copy, copy_piece, measure};
 use crate::icbs::FilePlace;
 use crate::resolves::{Resolved, front_of, resolve};
 use chains::cursors::ChainCursor;
@@ -50,8 +50,8 @@ fn read_whole(
     ensures { Replied full (after n (rest_at image.now mount kind first want)) out.old out.new result }
 {
     match measure(image, mount, kind, first, want) {
-        Measured::Refused(why, m) => refusal(why.number(), add_counts(n, m)),
-        Measured::Sized(s) => {
+        Err(r) => refusal(r.why.number(), add_counts(n, r.count)),
+        Ok(s) => {
             let size = s.size;
             let count = add_counts(n, s.count);
             if (out.len() as u64) < size {
@@ -72,9 +72,9 @@ pub fn read_file(image: &[u8], mount: Mount, icb: LongAd, out: &mut [u8], full: 
     ensures { Replied full (ran (disc image.now) (file_bytes mount icb)) out.old out.new result }
 {
     match resolve(image, mount, icb) {
-        Resolved::Refused(why, n) => refusal(why.number(), n),
-        Resolved::Embedded(p) => read_embedded(image, p, out, full),
-        Resolved::Chained(p, n) => read_whole(
+        Err(r) => refusal(r.why.number(), r.count),
+        Ok(Resolved::Embedded(p)) => read_embedded(image, p, out, full),
+        Ok(Resolved::Chained(p, n)) => read_whole(
             image,
             mount.at_entry(icb.location.partition_ref),
             p.kind,

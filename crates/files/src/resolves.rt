@@ -2,20 +2,19 @@
 ghost use Rattle.std.specs.Prelude.{◌≡◌};
 ghost use Rattle.files.specs.Inner.Wholes.{front_of, Resolves};
 
-use crate::icbs::{FilePlace, PlaceRead, locate};
+use crate::icbs::{FilePlace, locate};
 use chains::cursors::ChainCursor;
-use chains::follows::{Chain, follow};
+use chains::follows::follow;
 use disc::places::Mount;
-use disc::refusals::Refusal;
+use disc::refusals::CountedRefusal;
 use records::allocations::LongAd;
 
-// The file is embedded in its entry; or in the extents of its chain, which was followed to its end; or refused. The
-// number is the sectors asked for.
+// The file is embedded in its entry; or in the extents of its chain, which was followed to its end. The number is the
+// sectors asked for.
 #[derive(Clone, Copy)]
 pub enum Resolved {
     Embedded(FilePlace),
     Chained(FilePlace, u64),
-    Refused(Refusal, u64),
 }
 
 // The kind of an entry that holds the file itself.
@@ -35,20 +34,19 @@ pub fn front_of(p: FilePlace) -> ChainCursor
     }
 }
 
-pub fn resolve(image: &[u8], mount: Mount, icb: LongAd) -> Resolved
+pub fn resolve(image: &[u8], mount: Mount, icb: LongAd) -> Result<Resolved, CountedRefusal>
     ensures { Resolves image.now mount icb result }
 {
-    match locate(image, mount, icb) {
-        PlaceRead::Refused(why, n) => Resolved::Refused(why, n),
-        PlaceRead::Found(p) => {
-            if p.kind == EMBEDDED {
-                return Resolved::Embedded(p);
-            }
-            let own = mount.at_entry(icb.location.partition_ref);
-            match follow(image, own, p.kind, front_of(p)) {
-                Chain::Refused(why, n) => Resolved::Refused(why, n + 1),
-                Chain::Whole(n) => Resolved::Chained(p, n + 1),
-            }
-        }
+    let p = locate(image, mount, icb)?;
+    if p.kind == EMBEDDED {
+        return Ok(Resolved::Embedded(p));
+    }
+    let own = mount.at_entry(icb.location.partition_ref);
+    match follow(image, own, p.kind, front_of(p)) {
+        Err(r) => Err(CountedRefusal {
+            why: r.why,
+            count: r.count + 1,
+        }),
+        Ok(n) => Ok(Resolved::Chained(p, n + 1)),
     }
 }

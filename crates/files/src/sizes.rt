@@ -7,7 +7,7 @@ ghost use Rattle.files.specs.Files.{file_bytes};
 ghost use Rattle.files.specs.Sizes.{sizes_of};
 ghost use Rattle.files.specs.Inner.Weighings.{uncounted_by, WeighsChain, WeighsFile};
 
-use crate::extents::{Measured, measure};
+use crate::extents::measure;
 use crate::icbs::FilePlace;
 use crate::resolves::{MOST_CONTINUATIONS, Resolved, front_of, resolve};
 use chains::counts::count_left;
@@ -60,8 +60,8 @@ fn weigh_whole(image: &[u8], mount: Mount, p: FilePlace, n: u64) -> Weighing
     ensures { WeighsChain image.now mount p n result }
 {
     match measure(image, mount, p.kind, front_of(p), p.information) {
-        Measured::Refused(why, m) => uncounted(mount, refusal(why.number(), add_counts(n, m))),
-        Measured::Sized(s) => {
+        Err(r) => uncounted(mount, refusal(r.why.number(), add_counts(n, r.count))),
+        Ok(s) => {
             let behind = s.behind;
             let reply = Reply {
                 answer: DONE,
@@ -84,8 +84,8 @@ fn weigh_file(image: &[u8], mount: Mount, icb: LongAd) -> Weighing
     ensures { WeighsFile image.now mount icb result }
 {
     match resolve(image, mount, icb) {
-        Resolved::Refused(why, n) => uncounted(mount, refusal(why.number(), n)),
-        Resolved::Embedded(p) => uncounted(
+        Err(r) => uncounted(mount, refusal(r.why.number(), r.count)),
+        Ok(Resolved::Embedded(p)) => uncounted(
             mount,
             Reply {
                 answer: DONE,
@@ -93,7 +93,7 @@ fn weigh_file(image: &[u8], mount: Mount, icb: LongAd) -> Weighing
                 length: lesser(p.size as u64, p.information),
             },
         ),
-        Resolved::Chained(p, n) => {
+        Ok(Resolved::Chained(p, n)) => {
             weigh_whole(image, mount.at_entry(icb.location.partition_ref), p, n)
         }
     }

@@ -1,4 +1,5 @@
 -- Laws of file identifiers: the returns of the functions that read one, and what an identifier that was read says. Assumes nothing.
+use Rattle.std.specs.Prelude.{Result, Ok, Err}
 use mathlib.Core.Path.{◌≡◌, refl, ap, ◌∙◌}
 use mathlib.Core.Bool.{Bool, true, false}
 use mathlib.Core.List.{List}
@@ -17,18 +18,13 @@ use Rattle.tags.specs.Tags.{read_head}
 use Rattle.records.specs.Allocations.{long_of}
 use Rattle.records.specs.declared.allocations.LongAd.{LongAd}
 use Rattle.tags.specs.declared.DescriptorTag.{DescriptorTag}
-use Rattle.tags.specs.declared.TagRead.{TagRead}
-use Rattle.tags.specs.declared.TagRead.TheVariants.{Read as ATag, Refused as NoTag}
 use Rattle.names.specs.Names.{name_of, written, size_of}
-use Rattle.names.specs.declared.dstrings.NameSize.{NameSize}
-use Rattle.names.specs.declared.dstrings.NameSize.TheVariants.{Size, Refused as NoName}
 use Rattle.disc.proofs.ByteLaws.{bytes-taken, bytes-dropped}
 use Rattle.names.proofs.Promises.{name-short, name-refused}
 use Rattle.identifiers.specs.declared.FileIdentifierDescriptor.{FileIdentifierDescriptor}
-use Rattle.identifiers.specs.declared.IdentifierRead.{IdentifierRead}
-use Rattle.identifiers.specs.Identifiers.{name_at, name_end, recorded_name, next_at, identifier_of, identifier_sized, identifier_named, read_identifier, identifier_read}
+use Rattle.disc.specs.Replies.{returned}
+use Rattle.identifiers.specs.Identifiers.{name_at, name_end, recorded_name, next_at, identifier_of, identifier_sized, identifier_named, read_identifier}
 use Rattle.identifiers.specs.Inner.Wholes.{Whole}
-use Rattle.disc.proofs.RefusalLaws.{refusal-numbered}
 use Rattle.tags.proofs.HeadLaws.{gated-answered, gated-refused}
 use Rattle.disc.specs.Parts.{Bytes}
 use Rattle.tags.specs.Heads.{Passed}
@@ -46,12 +42,12 @@ module _ (s : List ℕ) where
     unfolding identifier_of
     fields-are a n size v k i = rw (v, k, i)
 
-    module _ (a n : ℕ) {size : NameSize} where
-      pub sized-not : {why : Refusal} → size ≡ NoName why → {r : IdentifierRead} → r ≡ identifier_read (refused why) → r ≡ identifier_read (identifier_sized s t a n size)
+    module _ (a n : ℕ) {size : Result ℕ Refusal} where
+      pub sized-not : {why : Refusal} → size ≡ Err why → Err why ≡ returned (identifier_sized s t a n size)
       unfolding identifier_sized
-      sized-not e k = rw e k
+      sized-not e = rw e
 
-      pub sized-whole : (k : ℕ) → size ≡ Size k → {f : FileIdentifierDescriptor} → f ≡ identifier_of s t a n k → record { answer = 0; descriptor = f } ≡ identifier_read (identifier_sized s t a n size)
+      pub sized-whole : (k : ℕ) → size ≡ Ok k → {f : FileIdentifierDescriptor} → f ≡ identifier_of s t a n k → Ok f ≡ returned (identifier_sized s t a n size)
       unfolding identifier_sized
       sized-whole k e g = rw (e, g)
 
@@ -60,41 +56,41 @@ module _ (s : List ℕ) where
       unfolding name_end
       end_is = cc
 
-      pub named-over : length s < a + n → {r : IdentifierRead} → r ≡ identifier_read (refused Malformed) → r ≡ identifier_read (identifier_named s t)
+      pub named-over : length s < a + n → Err Malformed ≡ returned (identifier_named s t)
       unfolding identifier_named
-      named-over h k = simp (lt-ltb (length s) (name_end s) (rw end_is at h)) k
+      named-over h = simp (lt-ltb (length s) (name_end s) (rw end_is at h)) cc
 
-      pub named-sized : a + n ≤ length s → {size : NameSize} → size ≡ size_of (name_of (take (a + n - a) (drop a s))) → {r : IdentifierRead}
-          → r ≡ identifier_read (identifier_sized s t a n size) → r ≡ identifier_read (identifier_named s t)
+      pub named-sized : a + n ≤ length s → {size : Result ℕ Refusal} → size ≡ size_of (name_of (take (a + n - a) (drop a s))) → {r : Result FileIdentifierDescriptor Refusal}
+          → r ≡ returned (identifier_sized s t a n size) → r ≡ returned (identifier_named s t)
       unfolding identifier_named recorded_name
       named-sized h {size} z k =
           let g : a + n - a ≡ n = omega arith in
           let y : size ≡ size_of (name_of (take n (drop a s))) = rw g at z in
           let i : identifier_sized s t a n size ≡ identifier_named s t = simp (le-ltb (length s) (name_end s) (rw end_is at h)) (rw (← e, ← f) (ap (identifier_sized s t a n) y)) in
-          k ∙ ap identifier_read i
+          k ∙ ap returned i
 
   -- `x` is what the gate gave
-  module _ (check : Bool) {x : TagRead} (e : x ≡ read_head check s 257 38) {r : IdentifierRead} where
-    pub identifier-no : {why : Refusal} → x ≡ NoTag why → r ≡ identifier_read (refused why) → r ≡ identifier_read (read_identifier check s)
+  module _ (check : Bool) {x : Result DescriptorTag Refusal} (e : x ≡ read_head check s 257 38) where
+    pub identifier-no : {why : Refusal} → x ≡ Err why → Err why ≡ returned (read_identifier check s)
     unfolding read_identifier
-    identifier-no h k = rw (← e, h) k
+    identifier-no h = rw (← e, h)
 
-    pub identifier-yes : {t : DescriptorTag} → x ≡ ATag t → r ≡ identifier_read (identifier_named s t) → r ≡ identifier_read (read_identifier check s)
+    pub identifier-yes : {t : DescriptorTag} {r : Result FileIdentifierDescriptor Refusal} → x ≡ Ok t → r ≡ returned (identifier_named s t) → r ≡ returned (read_identifier check s)
     unfolding read_identifier
     identifier-yes h k = rw (← e, h) k
 
 -- ---- what was read
 
-sized-is : (o : Outcome (List ℕ)) {n : ℕ} → size_of o ≡ Size n → n ≡ length (written o)
+sized-is : (o : Outcome (List ℕ)) {n : ℕ} → size_of o ≡ Ok n → n ≡ length (written o)
 sized-is (refused why) e = absurd (let z : ◌≡◌ {A = ℕ} 0 1 = cc in omega arith)
 sized-is (answered name) e = cc
 
 module _ (check : Bool) (s : List ℕ) (b : Bytes s) {f : FileIdentifierDescriptor} where
-  sized-says : (t : DescriptorTag) → Passed check s 257 38 t → name_end s ≤ length s → (z : NameSize) → size_of (name_of (recorded_name s)) ≡ z
+  sized-says : (t : DescriptorTag) → Passed check s 257 38 t → name_end s ≤ length s → (z : Result ℕ Refusal) → size_of (name_of (recorded_name s)) ≡ z
       → identifier_sized s t (name_at s) (byte s 19) z ≡ answered f → Whole s f
   unfolding identifier_sized identifier_of name_end name_at recorded_name next_at
-  sized-says t p w (NoName why) z q = absurd (let z : ◌≡◌ {A = ℕ} 0 1 = cc in omega arith)
-  sized-says t p w (Size n) z q =
+  sized-says t p w (Err why) z q = absurd (let z : ◌≡◌ {A = ℕ} 0 1 = cc in omega arith)
+  sized-says t p w (Ok n) z q =
       let i : identifier_of s t (name_at s) (byte s 19) n ≡ f = cc in
       let name : List ℕ = take (byte s 19) (drop (name_at s) s) in
       let size : n ≡ length (written (name_of name)) = sized-is (name_of name) z in
@@ -136,13 +132,13 @@ module _ (check : Bool) (s : List ℕ) (b : Bytes s) {f : FileIdentifierDescript
   unfolding read_identifier
   identifier-read e = let g = gated-answered check s 257 38 (identifier_named s) e in named-says g.tag g.head g.is
 
--- the same as the code reports it: an answer of 0 says it all
-pub read-identifier : (check : Bool) (s : List ℕ) → Bytes s → {r : IdentifierRead} → r ≡ identifier_read (read_identifier check s) → r.answer ≡ 0 → Whole s r.descriptor
-read-identifier check s b {r} e z = told (read_identifier check s) refl e
+-- the same as the code returns it
+pub read-identifier : (check : Bool) (s : List ℕ) → Bytes s → {r : Result FileIdentifierDescriptor Refusal} {f : FileIdentifierDescriptor} → r ≡ returned (read_identifier check s) → r ≡ Ok f → Whole s f
+read-identifier check s b {r} {f} e z = told (read_identifier check s) refl e
   where
-    told : (o : Outcome FileIdentifierDescriptor) → read_identifier check s ≡ o → r ≡ identifier_read o → Whole s r.descriptor
-    told (answered f) g e = rw e (identifier-read check s b g)
-    told (refused why) g e = absurd (refusal-numbered why (rw e at z))
+    told : (o : Outcome FileIdentifierDescriptor) → read_identifier check s ≡ o → r ≡ returned o → Whole s f
+    told (answered x) g e = let p : x ≡ f = cc in identifier-read check s b (rw p at g)
+    told (refused why) g e = absurd (let y : ◌≡◌ {A = ℕ} 0 1 = cc in omega arith)
 
 -- behind the gate every refusal is `Malformed`
 module _ (s : List ℕ) {why : Refusal} where

@@ -1,20 +1,16 @@
 -- The file identifier, one entry of a directory (ECMA-167 4/14.4): RULES 8.3 to 8.6.
-use Rattle.std.specs.Prelude.{ℕ, ◌+◌, ◌*◌, ◌/◌, ◌%◌, Bool, List, length, take, drop, eqb, ltb}
+use Rattle.std.specs.Prelude.{ℕ, ◌+◌, ◌*◌, ◌/◌, ◌%◌, Bool, List, length, take, drop, eqb, ltb, Result, Ok, Err}
 use Rattle.disc.specs.Choice.{pick}
-use Rattle.disc.specs.Refusals.{number}
 use Rattle.disc.specs.Ask.{Outcome}
 use Rattle.disc.specs.Ask.Outcome.{answered, refused}
 use Rattle.disc.specs.declared.refusals.Refusal.TheVariants.{Malformed}
 use Rattle.records.specs.Bytes.{byte, u16at}
 use Rattle.tags.specs.Tags.{read_head, gated}
-use Rattle.records.specs.Allocations.{long_of, no_long}
-use Rattle.tags.specs.Answers.{no_tag}
+use Rattle.records.specs.Allocations.{long_of}
 use Rattle.tags.specs.declared.DescriptorTag.{DescriptorTag}
 use Rattle.names.specs.Names.{name_of, size_of}
-use Rattle.names.specs.declared.dstrings.NameSize.{NameSize}
-use Rattle.names.specs.declared.dstrings.NameSize.TheVariants.{Size, Refused as NoName}
 use Rattle.identifiers.specs.declared.FileIdentifierDescriptor.{FileIdentifierDescriptor}
-use Rattle.identifiers.specs.declared.IdentifierRead.{IdentifierRead}
+use Rattle.disc.specs.declared.refusals.Refusal.{Refusal}
 
 -- ---- the name
 
@@ -52,9 +48,9 @@ identifier_of s t at n size = record {
 }
 
 -- a bad d-string refuses the identifier
-unfoldable pub identifier_sized : List ℕ → DescriptorTag → ℕ → ℕ → NameSize → Outcome FileIdentifierDescriptor
-identifier_sized s t at n (NoName why) = refused why
-identifier_sized s t at n (Size size) = answered (identifier_of s t at n size)
+unfoldable pub identifier_sized : List ℕ → DescriptorTag → ℕ → ℕ → Result ℕ Refusal → Outcome FileIdentifierDescriptor
+identifier_sized s t at n (Err why) = refused why
+identifier_sized s t at n (Ok size) = answered (identifier_of s t at n size)
 
 -- before that, a name that ends past the bytes given is refused
 unfoldable pub identifier_named : List ℕ → DescriptorTag → Outcome FileIdentifierDescriptor
@@ -65,23 +61,6 @@ identifier_named s t =
 -- reading an identifier at the front of s: id 257, at least 38 bytes; its body is checked in all of s, the directory's bytes from this entry on
 unfoldable pub read_identifier : Bool → List ℕ → Outcome FileIdentifierDescriptor
 read_identifier check s = gated (read_head check s 257 38) (identifier_named s)
-
--- as the code reports it: the answer number, and zeros where it is a refusal
-abbrev pub no_identifier : FileIdentifierDescriptor
-no_identifier = record {
-  tag = no_tag;
-  file_version_number = 0;
-  file_characteristics = 0;
-  icb = no_long;
-  name_at = 0;
-  name_length = 0;
-  name_size = 0;
-  total_size = 0;
-}
-
-abbrev pub identifier_read : Outcome FileIdentifierDescriptor → IdentifierRead
-identifier_read (answered f) = record { answer = 0; descriptor = f }
-identifier_read (refused why) = record { answer = number why; descriptor = no_identifier }
 
 -- ---- the characteristics (4/14.4.3)
 

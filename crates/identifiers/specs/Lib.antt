@@ -1,3 +1,4 @@
 -- What the contracts cite.
+pub mod Answers
 pub mod Identifiers
 pub mod Inner

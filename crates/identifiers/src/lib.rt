@@ -2,16 +2,15 @@
 #![tactic(auto)]
 
 ghost use Rattle.std.specs.Prelude.{◌≡◌, ◌+◌, ◌/◌, ◌%◌, ◌<◌};
-ghost use Rattle.disc.specs.Ask.Outcome.{refused};
-ghost use Rattle.identifiers.specs.Identifiers.{name_at, identifier_of, identifier_sized, identifier_named, read_identifier, identifier_read, bit, is_deleted, is_directory, is_parent};
+ghost use Rattle.disc.specs.Replies.{returned};
+ghost use Rattle.identifiers.specs.Identifiers.{name_at, identifier_of, identifier_sized, identifier_named, read_identifier, bit, is_deleted, is_directory, is_parent};
 
-use disc::answers::DONE;
 use disc::refusals::Refusal;
-use names::dstrings::{NameSize, name_size};
-use records::allocations::{LongAd, long_at, no_long};
+use names::dstrings::name_size;
+use records::allocations::{LongAd, long_at};
 use records::bytes::{byte_at, le16};
+use tags::DescriptorTag;
 use tags::heads::read_head;
-use tags::{DescriptorTag, TagRead, no_tag};
 
 // ECMA-167 4/14.4.
 const ID: u16 = 257;
@@ -33,32 +32,6 @@ pub struct FileIdentifierDescriptor {
     pub name_length: usize,
     pub name_size: usize,
     pub total_size: usize,
-}
-
-// An enum can hold no array, so this has an answer number, and zeros on a refusal.
-#[repr(C)]
-#[derive(Clone, Copy)]
-pub struct IdentifierRead {
-    pub answer: u64,
-    pub descriptor: FileIdentifierDescriptor,
-}
-
-fn refused_by(why: Refusal) -> IdentifierRead
-    ensures { result ≡ identifier_read (refused why) }
-{
-    IdentifierRead {
-        answer: why.number(),
-        descriptor: FileIdentifierDescriptor {
-            tag: no_tag(),
-            file_version_number: 0,
-            file_characteristics: 0,
-            icb: no_long(),
-            name_at: 0,
-            name_length: 0,
-            name_size: 0,
-            total_size: 0,
-        },
-    }
 }
 
 // Where the name starts: after the implementation use.
@@ -97,29 +70,23 @@ fn identifier_sized(
     t: DescriptorTag,
     at: usize,
     n: usize,
-    size: NameSize,
-) -> IdentifierRead
+    size: Result<usize, Refusal>,
+) -> Result<FileIdentifierDescriptor, Refusal>
     requires { at + n < 0x1_0000_0000 }
-    ensures { result ≡ identifier_read (identifier_sized s.now t at n size) }
+    ensures { result ≡ returned (identifier_sized s.now t at n size) }
 {
-    match size {
-        NameSize::Refused(why) => refused_by(why),
-        NameSize::Size(k) => IdentifierRead {
-            answer: DONE,
-            descriptor: identifier_of(s, t, at, n, k),
-        },
-    }
+    Ok(identifier_of(s, t, at, n, size?))
 }
 
 // The same, unless its name ends past the bytes given. The name's place and length are fetched here, once.
-fn identifier_named(s: &[u8], t: DescriptorTag) -> IdentifierRead
-    ensures { result ≡ identifier_read (identifier_named s.now t) }
+fn identifier_named(s: &[u8], t: DescriptorTag) -> Result<FileIdentifierDescriptor, Refusal>
+    ensures { result ≡ returned (identifier_named s.now t) }
 {
     let at = name_at(s);
     let n = byte_at(s, 19) as usize;
     let end = at + n;
     if s.len() < end {
-        return refused_by(Refusal::Malformed);
+        return Err(Refusal::Malformed);
     }
     identifier_sized(s, t, at, n, name_size(&s[at..end]))
 }
@@ -152,13 +119,10 @@ pub fn directory_bit(characteristics: u8) -> u8
 
 impl FileIdentifierDescriptor {
     // If bodies are checked, the bytes at hand are those of `s`: the directory's from the entry on.
-    pub fn parse(check: bool, s: &[u8]) -> IdentifierRead
-        ensures { result ≡ identifier_read (read_identifier check s.now) }
+    pub fn parse(check: bool, s: &[u8]) -> Result<FileIdentifierDescriptor, Refusal>
+        ensures { result ≡ returned (read_identifier check s.now) }
     {
-        match read_head(check, s, ID, LEAST_SIZE) {
-            TagRead::Refused(why) => refused_by(why),
-            TagRead::Read(t) => identifier_named(s, t),
-        }
+        identifier_named(s, read_head(check, s, ID, LEAST_SIZE)?)
     }
 
     pub fn is_directory(self) -> bool

@@ -1,4 +1,5 @@
 -- A list of extents, put together from its passes. Assumes nothing.
+use Rattle.std.specs.Prelude.{Result, Ok, Err}
 use mathlib.Core.Path.{◌≡◌, refl, ap, sym, ◌∙◌}
 use mathlib.Core.Bool.{Bool, true, false}
 use mathlib.Core.List.{List, [], ◌∷◌, ◌++◌, map}
@@ -36,14 +37,15 @@ use Rattle.chains.specs.Inner.Walks.{left, step_of, Counts}
 use Rattle.chains.proofs.WalkLaws.{ended, hopped, taken}
 use Rattle.files.specs.declared.icbs.FilePlace.{FilePlace}
 use Rattle.files.specs.Files.{entry_mount, file_extents}
-use Rattle.files.specs.declared.resolves.Resolved.{Resolved}
-use Rattle.files.specs.declared.resolves.Resolved.TheVariants.{Embedded, Chained, Refused as Unresolved}
 use Rattle.files.specs.Inner.Wholes.{front_of, ChainedFile, Resolves}
 use Rattle.layouts.specs.declared.lists.Extent.{Extent}
 use Rattle.layouts.specs.declared.lists.Listing.{Listing}
 use Rattle.layouts.specs.Calls.{reference_of, extent_of, fields_of, words_of, Listed}
 use Rattle.layouts.specs.Inner.Lists.{stored_of, Front, ListStands, Planned, listed_run}
 use Rattle.disc.specs.Parts.{Bytes}
+use Rattle.files.specs.declared.resolves.Resolved.TheVariants.{Embedded, Chained}
+use Rattle.files.specs.declared.resolves.Resolved.{Resolved}
+use Rattle.disc.specs.declared.refusals.CountedRefusal.{CountedRefusal}
 
 -- ---- the return of `extent_of`
 
@@ -100,25 +102,25 @@ module _ (image : List ℕ) (v : Mount) (kind : ℕ) (c : ChainCursor) (n : ℕ)
 
 -- ---- the returns of `plan`: r is what `resolve` found
 
-module _ (image : List ℕ) (v : Mount) (icb : LongAd) (r : Resolved) (y : Resolves image v icb r) (room : ℕ) where
+module _ (image : List ℕ) (v : Mount) (icb : LongAd) (r : Result Resolved CountedRefusal) (y : Resolves image v icb r) (room : ℕ) where
   abbrev file : Ran (List AllocExtent)
   file = ran (disc image) (file_extents v icb)
 
-  pub list-refused : {why : Refusal} {n : ℕ} → r ≡ Unresolved why n → {a : ℕ} → a ≡ number why → {x : Reply} → x ≡ record { answer = a; count = n; length = 0 }
+  pub list-refused : {why : Refusal} {n : ℕ} → r ≡ Err (record { why = why; count = n }) → {a : ℕ} → a ≡ number why → {x : Reply} → x ≡ record { answer = a; count = n; length = 0 }
       → {l : Listing} → l.reply ≡ x → Planned image file room l
   unfolding file_extents
   list-refused {why} {n} e g f j =
-      let q : Resolves image v icb (Unresolved why n) = rw e at y in
+      let q : Resolves image v icb (Err (record { why = why; count = n })) = rw e at y in
       let z : min n 0xffff_ffff_ffff_ffff ≡ n = omega (arith, q.few) in
       rw (ran_then, q.runs) (stands-empty image refl (rw z (j ∙ f ∙ rw g)))
 
-  pub list-in : {p : FilePlace} → r ≡ Embedded p → {l : Listing} → l.reply ≡ record { answer = 0; count = 1; length = 0 } → Planned image file room l
+  pub list-in : {p : FilePlace} → r ≡ Ok (Embedded p) → {l : Listing} → l.reply ≡ record { answer = 0; count = 1; length = 0 } → Planned image file room l
   unfolding file_extents
   list-in {p} e j =
-      let q : Resolves image v icb (Embedded p) = rw e at y in
+      let q : Resolves image v icb (Ok (Embedded p)) = rw e at y in
       rw (ran_then, q.runs, ran-done) (stands-empty image (rw (le-leb 0 room (omega arith))) (rw (le-leb 0 room (omega arith)) j))
 
-  module _ {p : FilePlace} {n : ℕ} (e : r ≡ Chained p n) where
+  module _ {p : FilePlace} {n : ℕ} (e : r ≡ Ok (Chained p n)) where
     in-chain : ChainedFile image v icb p n
     in-chain = rw e at y
 

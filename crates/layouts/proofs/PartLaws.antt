@@ -1,4 +1,5 @@
 -- The uncopied part of a file, by its place and its length. Assumes nothing.
+use Rattle.std.specs.Prelude.{Result, Ok, Err}
 use mathlib.Core.Path.{◌≡◌, refl, ap, sym, ◌∙◌}
 use mathlib.Core.Bool.{Bool, true, false}
 use mathlib.Core.List.{List}
@@ -25,10 +26,6 @@ use Rattle.disc.proofs.PartLaws.{part_none, part_slice}
 use Rattle.records.specs.declared.allocations.LongAd.{LongAd}
 use Rattle.areas.specs.declared.AllocExtent.{AllocExtent}
 use Rattle.files.specs.declared.icbs.FilePlace.{FilePlace}
-use Rattle.files.specs.declared.resolves.Resolved.{Resolved}
-use Rattle.files.specs.declared.resolves.Resolved.TheVariants.{Embedded, Chained, Refused as Unresolved}
-use Rattle.files.specs.declared.icbs.PlaceRead.{PlaceRead}
-use Rattle.files.specs.declared.icbs.PlaceRead.TheVariants.{Found, Refused as NoPlace}
 use Rattle.files.specs.Files.{Located, entry_at, entry_mount, is_embedded, chain_of, file_at, Part, no_part, part_of, file_part}
 use Rattle.files.specs.Files.File.{chained}
 use Rattle.files.specs.Inner.Places.{place_of}
@@ -37,6 +34,9 @@ use Rattle.files.proofs.EntryLaws.{found-kind, found-goes, found-embedded, locat
 use Rattle.layouts.specs.Calls.{part_in, part_reply, PartReplied}
 use Rattle.disc.specs.Parts.{PartAt}
 use Rattle.layouts.specs.Inside.{file}
+use Rattle.disc.specs.declared.refusals.CountedRefusal.{CountedRefusal}
+use Rattle.files.specs.declared.resolves.Resolved.TheVariants.{Embedded, Chained}
+use Rattle.files.specs.declared.resolves.Resolved.{Resolved}
 
 embedded-size : (image : List ℕ) (p : FilePlace) → p.at + p.size ≤ length image → length (embedded_in image p) ≡ min p.size p.information
 embedded-size image p h = length-take-le (min p.size p.information) (drop p.at image) (rw length-drop (omega arith))
@@ -60,18 +60,18 @@ module _ (image : List ℕ) (m : Mount) (icb : LongAd) where
 
 -- ---- the returns of `part_at`
 
-module _ (image : List ℕ) (m : Mount) (icb : LongAd) (r : Resolved) (y : Resolves image m icb r) where
-  module _ {why : Refusal} {n : ℕ} (e : r ≡ Unresolved why n) where
-    none : NoFile image m icb why n
+module _ (image : List ℕ) (m : Mount) (icb : LongAd) (r : Result Resolved CountedRefusal) (y : Resolves image m icb r) where
+  module _ {w : CountedRefusal} (e : r ≡ Err w) where
+    none : NoFile image m icb w.why w.count
     none = rw e at y
 
-    pub part-refused : {a : ℕ} → a ≡ number why → {reply : Reply} → reply ≡ record { answer = a; count = n; length = 0 } → reply ≡ part_reply (file image m icb)
-    part-refused f g = rw (refused-runs image m icb none, g, f) (ap (λ k. record { answer = number why; count = k; length = 0 }) (omega (arith, none.few)))
+    pub part-refused : {a : ℕ} → a ≡ number w.why → {reply : Reply} → reply ≡ record { answer = a; count = w.count; length = 0 } → reply ≡ part_reply (file image m icb)
+    part-refused f g = rw (refused-runs image m icb none, g, f) (ap (λ k. record { answer = number w.why; count = k; length = 0 }) (omega (arith, none.few)))
 
     pub place-refused : 0 ≡ (part_in (file image m icb).outcome).at
     place-refused = rw (refused-runs image m icb none)
 
-  module _ {p : FilePlace} {n : ℕ} (e : r ≡ Chained p n) where
+  module _ {p : FilePlace} {n : ℕ} (e : r ≡ Ok (Chained p n)) where
     in-chain : ChainedFile image m icb p n
     in-chain = rw e at y
 
@@ -81,7 +81,7 @@ module _ (image : List ℕ) (m : Mount) (icb : LongAd) (r : Resolved) (y : Resol
     pub place_out : 0 ≡ (part_in (file image m icb).outcome).at
     place_out = rw (chained-runs image m icb in-chain)
 
-  module _ {p : FilePlace} (e : r ≡ Embedded p) where
+  module _ {p : FilePlace} (e : r ≡ Ok (Embedded p)) where
     in_entry : EmbeddedFile image m icb p
     in_entry = rw e at y
 
@@ -126,9 +126,9 @@ module _ (image : List ℕ) (m : Mount) (icb : LongAd) where
           })
       kept p q false e = rw (chain-part q (eqb-false _ _ e)) (part_none image)
 
-      by : (r : PlaceRead) → Locates image m icb r → Held
-      by (NoPlace why n) y = rw (no-entry y) (part_none image)
-      by (Found p) y = kept p y (eqb p.kind 3) refl
+      by : (r : Result FilePlace CountedRefusal) → Locates image m icb r → Held
+      by (Err e) y = rw (no-entry y) (part_none image)
+      by (Ok p) y = kept p y (eqb p.kind 3) refl
 
   -- a refusal has no place
   pub place_none : (answer_of (file image m icb).outcome ≡ 0 → ⊥) → (part_in (file image m icb).outcome).at ≡ 0

@@ -1,8 +1,8 @@
 -- The promises of layouts: what follows from the contracts and the definitions alone. Assumes nothing.
+use Rattle.std.specs.Prelude.{Option, Some, None}
 use mathlib.Core.Path.{◌≡◌, refl, ap, sym, ◌∙◌}
 use mathlib.Core.Bool.{Bool, true, false}
 use mathlib.Core.List.{List, [], ◌∷◌, ◌++◌, map, map-map, map-append}
-use mathlib.Core.Option.{Option, none, some}
 use Prim.Native.Nat.{ℕ, zero, suc, ◌-◌, ◌*◌, min}
 use native.Mathlib.Omega.{arith}
 use lib.ListN.{length, take, drop, length-map}
@@ -156,8 +156,8 @@ module _ (d : Disc) where
           → asked d (pick t (standing o (λ at. then (extent_bytes (sectors_for e.length) at e.length want) (λ b. running want (2048 * at) (length b) (extents_runs m es (want - length b))))) (refuse Unsupported))
           ≡ asked d (pick t (standing o (λ at. then (extent_bytes (sectors_for e.length) at e.length want) (λ b. joining want b (extents_bytes m es (want - length b))))) (refuse Unsupported))
       typed false o ih = refl
-      typed true none ih = refl
-      typed true (some at) ih =
+      typed true None ih = refl
+      typed true (Some at) ih =
           asked-then d (extent_bytes (sectors_for e.length) at e.length want) _
           ∙ rw (read at (outcome d (extent_bytes (sectors_for e.length) at e.length want)) ih) (sym (asked-then d (extent_bytes (sectors_for e.length) at e.length want) _))
 

@@ -1,8 +1,8 @@
 -- A file's runs, against the bytes that a read takes from them, and one turn of a walk at a time. Assumes nothing.
+use Rattle.std.specs.Prelude.{Option, Some, None}
 use mathlib.Core.Path.{◌≡◌, refl, ap, sym, ◌∙◌}
 use mathlib.Core.Bool.{Bool, true, false}
 use mathlib.Core.List.{List, [], ◌∷◌, ◌++◌, append-nil}
-use mathlib.Core.Option.{Option, none, some}
 use mathlib.Core.Logic.{◌⊎◌, inl, inr, ⊎_elim}
 use Prim.Native.Nat.{ℕ, zero, suc, ◌+◌, ◌-◌, ◌*◌, ◌≤◌, ◌<◌, min}
 use native.Mathlib.Nat.{add-zero}
@@ -75,11 +75,11 @@ module _ (image : List ℕ) (m : Mount) (e : AllocExtent) (want : ℕ) where
   off-type h es = rw (ne_eqb _ 0 h) (ran-refuse (disc image) Unsupported)
 
   module _ (h : e.extent_type ≡ 0) where
-    off-nowhere : placed m e.partition_ref e.block.0 ≡ none → (es : List AllocExtent) → runs_on image m (e ∷ es) want ≡ record { outcome = refused Unsupported; count = 0 }
+    off-nowhere : placed m e.partition_ref e.block.0 ≡ None → (es : List AllocExtent) → runs_on image m (e ∷ es) want ≡ record { outcome = refused Unsupported; count = 0 }
     unfolding extents_runs
     off-nowhere k es = rw (eq-eqb _ 0 h, k) (ran-refuse (disc image) Unsupported)
 
-    module _ {s : ℕ} (p : placed m e.partition_ref e.block.0 ≡ some s) (es : List AllocExtent) where
+    module _ {s : ℕ} (p : placed m e.partition_ref e.block.0 ≡ Some s) (es : List AllocExtent) where
       first : runs_on image m (e ∷ es) want
           ≡ followed (extent_runs image s e.length want) (λ b. ran (disc image) (running want (2048 * s) (length b) (extents_runs m es (want - length b))))
       unfolding extents_runs
@@ -110,8 +110,8 @@ module _ (image : List ℕ) (m : Mount) (e : AllocExtent) (want : ℕ) where
       typed true p = stands (placed m e.partition_ref e.block.0) refl
         where
           stands : (o : Option ℕ) → placed m e.partition_ref e.block.0 ≡ o → There image m e want ⊎ Off
-          stands none g = let h = eqb-true _ _ p in inr (record { why = Unsupported; n = 0; bytes = weigh-nowhere image m e want h g; runs = off-nowhere h g })
-          stands (some s) g = let h = eqb-true _ _ p in ⊎_elim
+          stands None g = let h = eqb-true _ _ p in inr (record { why = Unsupported; n = 0; bytes = weigh-nowhere image m e want h g; runs = off-nowhere h g })
+          stands (Some s) g = let h = eqb-true _ _ p in ⊎_elim
               (λ (k : sectors ≤ held_from image s). inl (record { at = s; recorded = h; stands = g; held = k }))
               (λ (k : held_from image s < sectors). inr (record { why = Io; n = held_from image s + 1; bytes = weigh-missing image m e want h g k; runs = λ es. off-missing h g es k }))
               (split sectors (held_from image s))

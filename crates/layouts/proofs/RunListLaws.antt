@@ -1,4 +1,5 @@
 -- The runs of a file, counted, listed and stored. Assumes nothing.
+use Rattle.std.specs.Prelude.{Result, Ok, Err}
 use mathlib.Core.Path.{◌≡◌, refl, ap, sym, ◌∙◌}
 use mathlib.Core.List.{List, [], ◌∷◌, map}
 use mathlib.Core.Logic.{⊎_elim}
@@ -30,8 +31,6 @@ use Rattle.chains.specs.declared.cursors.ChainCursor.{ChainCursor}
 use Rattle.files.specs.declared.icbs.FilePlace.{FilePlace}
 use Rattle.files.specs.declared.pieces.Turn.{Turn}
 use Rattle.files.specs.declared.pieces.Turn.TheVariants.{Piece, Hop, Refused as Stopped, End}
-use Rattle.files.specs.declared.resolves.Resolved.{Resolved}
-use Rattle.files.specs.declared.resolves.Resolved.TheVariants.{Embedded, Chained, Refused as Unresolved}
 use Rattle.files.specs.Files.{entry_mount, part_of}
 use Rattle.files.specs.Files.File.{embedded}
 use Rattle.files.specs.Inner.Pieces.{PieceTurn, HopTurn, EndTurn, Turned}
@@ -42,13 +41,15 @@ use Rattle.files.specs.Inner.Passes.Came.{comes, stops}
 use Rattle.files.specs.Inner.Wholes.{embedded_in, front_of, EmbeddedFile, ChainedFile, Resolves}
 use Rattle.layouts.specs.declared.runs.Run.{Run}
 use Rattle.layouts.specs.Runs.{run_here, file_runs, pair_of, RunsListed}
-use Rattle.layouts.specs.declared.runs.RunCount.{RunCount}
-use Rattle.layouts.specs.declared.runs.RunCount.TheVariants.{Counted, Refused}
 use Rattle.layouts.specs.declared.runs.Running.{Running}
 use Rattle.layouts.specs.Inner.RunLists.{runs_at, runs_in, counted_by, RunFront, RunStands, RunsLeft, RunsPlanned, alone_by, entry_run, EntryPlanned, chain_runs}
 use Rattle.layouts.proofs.ListLaws.{At, at, Fit, fit, reply-each, stored}
 use Rattle.layouts.proofs.RunLaws.{before_runs, joined_runs, here-long, runs-refused, none-wanted, turn_end, turn-piece}
 use Rattle.disc.specs.Parts.{Bytes}
+use Rattle.layouts.specs.declared.runs.RunCount.{RunCount}
+use Rattle.disc.specs.declared.refusals.CountedRefusal.{CountedRefusal}
+use Rattle.files.specs.declared.resolves.Resolved.TheVariants.{Embedded, Chained}
+use Rattle.files.specs.declared.resolves.Resolved.{Resolved}
 
 -- ---- how many, piece by piece
 
@@ -90,14 +91,14 @@ module _ (image : List ℕ) (m : Mount) (kind want : ℕ) (c₀ : ChainCursor) w
     counted-turn : Turned image m kind c missing t
     counted-turn = turned image m kind c missing i.known gave
 
-    pub count-end : t ≡ End → counted_by (Counted runs count) ≡ whole
+    pub count-end : t ≡ End → counted_by (Ok (record { runs = runs; count = count })) ≡ whole
     unfolding sized
     count-end e =
         let q : EndTurn image m kind c missing = rw e at counted-turn in
         let n : reported (count + 0) ≡ count = omega (arith, i.counts) in
         (rw (turn_end image m kind c missing q.list, n, add-zero) at i.rest)
 
-    pub count-refused : {a : Refusal} {n k : ℕ} → t ≡ Stopped a n → k ≡ reported (count + n) → counted_by (Refused a k) ≡ whole
+    pub count-refused : {a : Refusal} {n k : ℕ} → t ≡ Stopped a n → k ≡ reported (count + n) → counted_by (Err (record { why = a; count = k })) ≡ whole
     unfolding sized
     count-refused {a} {n} {k} e f =
         let q : Turned image m kind c missing (Stopped a n) = rw e at counted-turn in
@@ -128,7 +129,7 @@ module _ (image : List ℕ) (m : Mount) (kind want : ℕ) (c₀ : ChainCursor) w
         one = here-long from k ∙ sym g
 
         module _ {h : ℕ} (f : h ≡ reported (count + n)) where
-          pub count-enough : missing ≤ k → counted_by (Counted (runs + j) h) ≡ whole
+          pub count-enough : missing ≤ k → counted_by (Ok (record { runs = (runs + j); count = h })) ≡ whole
           count-enough l =
               rw (f, ← counted-enough (run_here from k) j one runs count n k missing (runs_at image m kind c' (missing - k)) l, ← turn-piece image m kind c missing turn) i.rest
 
@@ -288,7 +289,7 @@ told-refused (refused a) c why j e =
 pub chain-little : (p : FilePlace) {front : ChainCursor} → front ≡ front_of p → p.size ≤ 2048 → front.left ≤ 2048
 chain-little p g h = rw g h
 
-module _ (image : List ℕ) (v : Mount) (p : FilePlace) (n room : ℕ) {front : ChainCursor} (g : front ≡ front_of p) (t : RunCount)
+module _ (image : List ℕ) (v : Mount) (p : FilePlace) (n room : ℕ) {front : ChainCursor} (g : front ≡ front_of p) (t : Result RunCount CountedRefusal)
     (q : counted_by t ≡ sized 0 0 (runs_at image v p.kind front p.information)) where
   abbrev rest : Ran (List Run)
   rest = runs_at image v p.kind (front_of p) p.information
@@ -296,7 +297,7 @@ module _ (image : List ℕ) (v : Mount) (p : FilePlace) (n room : ℕ) {front : 
   counts-as : counted_by t ≡ sized 0 0 rest
   counts-as = rw g at q
 
-  pub chain-refused : {why : Refusal} {j : ℕ} → t ≡ Refused why j → {a : ℕ} → a ≡ number why → {k : ℕ} → k ≡ reported (n + j) → {x : Reply} → x ≡ record { answer = a; count = k; length = 0 }
+  pub chain-refused : {why : Refusal} {j : ℕ} → t ≡ Err (record { why = why; count = j }) → {a : ℕ} → a ≡ number why → {k : ℕ} → k ≡ reported (n + j) → {x : Reply} → x ≡ record { answer = a; count = k; length = 0 }
       → {l : Running} → l ≡ alone_by v 0 0 x → RunsPlanned image (chain_runs image v p n) room l
   unfolding sized
   chain-refused {why} {j} f a {k} h e u =
@@ -304,7 +305,7 @@ module _ (image : List ℕ) (v : Mount) (p : FilePlace) (n room : ℕ) {front : 
       let c : k ≡ reported (n + rest.count) = omega (arith, d.count) in
       rw d.is (stands-empty image refl (alone-says u ∙ e ∙ rw (a, c)))
 
-  module _ {runs j : ℕ} (f : t ≡ Counted runs j) {k : ℕ} (h : k ≡ reported (n + j)) where
+  module _ {runs j : ℕ} (f : t ≡ Ok (record { runs = runs; count = j })) {k : ℕ} (h : k ≡ reported (n + j)) where
     told : Told rest runs j
     unfolding sized
     told = told-counted rest.outcome rest.count runs j (rw f at counts-as)
@@ -334,22 +335,22 @@ entry_runs image m icb {p} q =
     let s : (part_of (embedded q.entry)).at ≡ p.at = sym (ap (λ (x : FilePlace). x.at) q.is) in
     rw (ran_then, q.runs, ran-done, q.bytes, l, s)
 
-module _ (image : List ℕ) (m : Mount) (icb : LongAd) (r : Resolved) (y : Resolves image m icb r) (room : ℕ) where
+module _ (image : List ℕ) (m : Mount) (icb : LongAd) (r : Result Resolved CountedRefusal) (y : Resolves image m icb r) (room : ℕ) where
   abbrev file : Ran (List Run)
   file = ran (disc image) (file_runs m icb)
 
-  pub plan-refused : {why : Refusal} {n : ℕ} → r ≡ Unresolved why n → {a : ℕ} → a ≡ number why → {x : Reply} → x ≡ record { answer = a; count = n; length = 0 } → {l : Running} → l ≡ alone_by m 0 0 x
+  pub plan-refused : {why : Refusal} {n : ℕ} → r ≡ Err (record { why = why; count = n }) → {a : ℕ} → a ≡ number why → {x : Reply} → x ≡ record { answer = a; count = n; length = 0 } → {l : Running} → l ≡ alone_by m 0 0 x
       → RunsPlanned image file room l
   unfolding file_runs
   plan-refused {why} {n} e a f u =
-      let q : Resolves image m icb (Unresolved why n) = rw e at y in
+      let q : Resolves image m icb (Err (record { why = why; count = n })) = rw e at y in
       let z : reported n ≡ n = omega (arith, q.few) in
       rw (ran_then, q.runs, z) (stands-empty image refl (alone-says u ∙ f ∙ rw a))
 
-  pub plan-in : {p : FilePlace} → r ≡ Embedded p → {l : Running} → EntryPlanned p room l → RunsPlanned image file room l
+  pub plan-in : {p : FilePlace} → r ≡ Ok (Embedded p) → {l : Running} → EntryPlanned p room l → RunsPlanned image file room l
   plan-in {p} e h = let q : EmbeddedFile image m icb p = rw e at y in rw (entry_runs image m icb q) (h.on image)
 
-  module _ {p : FilePlace} {n : ℕ} (e : r ≡ Chained p n) where
+  module _ {p : FilePlace} {n : ℕ} (e : r ≡ Ok (Chained p n)) where
     in-chain : ChainedFile image m icb p n
     in-chain = rw e at y
 

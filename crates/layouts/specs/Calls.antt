@@ -1,5 +1,5 @@
 -- What the calls on a file answer besides its bytes: a part of the image, and a list of extents. RULES 7.12 to 7.17.
-use Rattle.std.specs.Prelude.{ℕ, ◌≡◌, List, [], ◌∷◌, length}
+use Rattle.std.specs.Prelude.{ℕ, ◌≡◌, List, [], ◌∷◌, length, Option, Some, None}
 use Rattle.disc.specs.Counts.{reported}
 use Rattle.disc.specs.Ask.{Outcome}
 use Rattle.disc.specs.Ask.Outcome.{answered, refused}
@@ -7,8 +7,6 @@ use Rattle.disc.specs.Ran.{Ran, each}
 use Rattle.disc.specs.Replies.{answer_of, Replied}
 use Rattle.disc.specs.declared.refusals.Refusal.TheVariants.{NoSlot}
 use Rattle.disc.specs.declared.replies.Reply.{Reply}
-use Rattle.disc.specs.declared.places.PartitionRef.{PartitionRef}
-use Rattle.disc.specs.declared.places.PartitionRef.TheVariants.{Unnamed, Named}
 use Rattle.areas.specs.declared.AllocExtent.{AllocExtent}
 use Rattle.files.specs.Files.{Part, no_part}
 use Rattle.layouts.specs.declared.lists.Extent.{Extent}
@@ -36,9 +34,9 @@ PartReplied r part answer count = Gave (part_in r.outcome).bytes (answer_of r.ou
 -- ---- a list of extents in a lent row, a slot for each
 
 -- the partition that an extent names, 65,536 where it names none
-abbrev pub reference_of : PartitionRef → ℕ
-reference_of Unnamed = 65536
-reference_of (Named p) = p
+abbrev pub reference_of : Option ℕ → ℕ
+reference_of None = 65536
+reference_of (Some p) = p
 
 -- effective length, type, block and partition reference of an extent: as a record, and as four numbers
 abbrev pub extent_of : AllocExtent → Extent

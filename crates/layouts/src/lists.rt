@@ -12,7 +12,7 @@ use areas::AllocExtent;
 use chains::counts::count_left;
 use chains::cursors::{ChainCursor, ChainStep, advance};
 use disc::answers::DONE;
-use disc::places::{Mount, PartitionRef};
+use disc::places::Mount;
 use disc::refusals::Refusal;
 use disc::replies::{Reply, refusal};
 use files::resolves::{Resolved, front_of, resolve};
@@ -44,12 +44,12 @@ struct Listing {
 }
 
 // The partition that a descriptor names; 65,536 if it names none.
-pub fn reference_number(r: PartitionRef) -> u32
+pub fn reference_number(r: Option<u16>) -> u32
     ensures { result ≡ reference_of r }
 {
     match r {
-        PartitionRef::Unnamed => 65536,
-        PartitionRef::Named(p) => p as u32,
+        None => 65536,
+        Some(p) => p as u32,
     }
 }
 
@@ -163,8 +163,8 @@ fn plan(image: &[u8], mount: Mount, icb: LongAd, room: usize) -> Listing
     ensures { Planned image.now (ran (disc image.now) (file_extents mount icb)) room result }
 {
     match resolve(image, mount, icb) {
-        Resolved::Refused(why, n) => empty(mount, refusal(why.number(), n)),
-        Resolved::Embedded(_) => empty(
+        Err(r) => empty(mount, refusal(r.why.number(), r.count)),
+        Ok(Resolved::Embedded(_)) => empty(
             mount,
             Reply {
                 answer: DONE,
@@ -172,7 +172,7 @@ fn plan(image: &[u8], mount: Mount, icb: LongAd, room: usize) -> Listing
                 length: 0,
             },
         ),
-        Resolved::Chained(p, n) => list_whole(
+        Ok(Resolved::Chained(p, n)) => list_whole(
             image,
             mount.at_entry(icb.location.partition_ref),
             p.kind,
@@ -192,12 +192,10 @@ pub fn file_words(image: &[u8], mount: Mount, icb: LongAd, row: &mut [[u32; 4]])
 {
     let mut l = plan(image, mount, icb, row.len());
     let n = l.reply.length as usize;
-    let mut i = 0;
-    while i < n {
+    for i in 0..n {
         let front = l.front;
         row[i] = words(front);
         l = further(image, l);
-        i += 1;
     }
     l.reply
 }
@@ -209,11 +207,9 @@ pub fn file_rows(image: &[u8], mount: Mount, icb: LongAd, row: &mut [Extent]) ->
 {
     let mut l = plan(image, mount, icb, row.len());
     let n = l.reply.length as usize;
-    let mut i: usize = 0;
-    while i < n {
+    for i in 0..n {
         row[i] = l.front;
         l = further(image, l);
-        i += 1;
     }
     l.reply
 }

@@ -6,7 +6,6 @@ ghost use Rattle.files.specs.Files.{file_part};
 ghost use Rattle.layouts.specs.Calls.{part_in, part_reply, PartReplied};
 
 use disc::answers::DONE;
-use disc::counts::lesser;
 use disc::places::Mount;
 use disc::replies::{Reply, refusal};
 use files::resolves::{Resolved, resolve};
@@ -20,18 +19,18 @@ pub fn part_at(image: &[u8], mount: Mount, icb: LongAd, at: &mut usize) -> Reply
 {
     *at = 0;
     match resolve(image, mount, icb) {
-        Resolved::Refused(why, n) => refusal(why.number(), n),
-        Resolved::Chained(_, n) => Reply {
+        Err(r) => refusal(r.why.number(), r.count),
+        Ok(Resolved::Chained(_, n)) => Reply {
             answer: DONE,
             count: n,
             length: 0,
         },
-        Resolved::Embedded(p) => {
+        Ok(Resolved::Embedded(p)) => {
             *at = p.at;
             Reply {
                 answer: DONE,
                 count: 1,
-                length: lesser(p.size as u64, p.information),
+                length: (p.size as u64).min(p.information),
             }
         }
     }

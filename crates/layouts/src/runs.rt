@@ -9,9 +9,9 @@ ghost use Rattle.layouts.specs.Inner.RunLists.{runs_at, counted_by, RunsLeft, Ru
 
 use chains::cursors::ChainCursor;
 use disc::answers::DONE;
-use disc::counts::{add_counts, lesser};
+use disc::counts::add_counts;
 use disc::places::Mount;
-use disc::refusals::Refusal;
+use disc::refusals::{CountedRefusal, Refusal};
 use disc::replies::{Reply, refusal};
 use files::icbs::FilePlace;
 use files::pieces::{Turn, next_piece};
@@ -28,11 +28,11 @@ pub struct Run {
     pub length: u64,
 }
 
-// How many runs there are, and the sectors asked for; or a refusal and the sectors asked for.
+// How many runs there are, and the sectors asked for.
 #[derive(Clone, Copy)]
-enum RunCount {
-    Counted(u64, u64),
-    Refused(Refusal, u64),
+struct RunCount {
+    runs: u64,
+    count: u64,
 }
 
 // A list under way: the reply of the whole call, the next run to store, the cursor after it, and the bytes still
@@ -68,7 +68,13 @@ fn alone(mount: Mount, at: u64, length: u64, reply: Reply) -> Running
 }
 
 // How many runs hold the `want` bytes from a cursor on. An extent of no bytes is no run.
-fn count_runs(image: &[u8], mount: Mount, kind: u8, first: ChainCursor, want: u64) -> RunCount
+fn count_runs(
+    image: &[u8],
+    mount: Mount,
+    kind: u8,
+    first: ChainCursor,
+    want: u64,
+) -> Result<RunCount, CountedRefusal>
     requires { first.left ≤ 2048 }
     ensures { counted_by result ≡ sized 0 0 (runs_at image.now mount kind first want) }
 {
@@ -78,8 +84,11 @@ fn count_runs(image: &[u8], mount: Mount, kind: u8, first: ChainCursor, want: u6
     let mut count: u64 = 0;
     loop {
         match next_piece(image, mount, kind, c, missing) {
-            Turn::End => return RunCount::Counted(runs, count),
-            Turn::Refused(why, n) => return RunCount::Refused(why, add_counts(count, n)),
+            Turn::End => return Ok(RunCount { runs, count }),
+            Turn::Refused(why, n) => return Err(CountedRefusal {
+                why,
+                count: add_counts(count, n),
+            }),
             Turn::Hop(next) => c = next,
             Turn::Piece {
                 from: _,
@@ -88,9 +97,9 @@ fn count_runs(image: &[u8], mount: Mount, kind: u8, first: ChainCursor, want: u6
                 next,
             } => {
                 count = add_counts(count, sectors);
-                runs += lesser(bytes, 1);
+                runs += bytes.min(1);
                 if missing <= bytes {
-                    return RunCount::Counted(runs, count);
+                    return Ok(RunCount { runs, count });
                 }
                 missing -= bytes;
                 c = next;
@@ -142,8 +151,8 @@ fn further_runs(image: &[u8], l: Running) -> Running
 fn plan_entry(mount: Mount, p: FilePlace, room: usize) -> Running
     ensures { EntryPlanned p room result }
 {
-    let n = lesser(p.size as u64, p.information);
-    let runs = lesser(n, 1);
+    let n = (p.size as u64).min(p.information);
+    let runs = n.min(1);
     if (room as u64) < runs {
         return alone(mount, 0, 0, refusal(Refusal::NoSlot.number(), 1));
     }
@@ -165,9 +174,9 @@ fn plan_chain(image: &[u8], mount: Mount, p: FilePlace, n: u64, room: usize) -> 
     ensures { RunsPlanned image.now (chain_runs image.now mount p n) room result }
 {
     match count_runs(image, mount, p.kind, front_of(p), p.information) {
-        RunCount::Refused(why, m) => alone(mount, 0, 0, refusal(why.number(), add_counts(n, m))),
-        RunCount::Counted(runs, m) => {
-            let count = add_counts(n, m);
+        Err(r) => alone(mount, 0, 0, refusal(r.why.number(), add_counts(n, r.count))),
+        Ok(RunCount { runs, count: read }) => {
+            let count = add_counts(n, read);
             if (room as u64) < runs {
                 return alone(mount, 0, 0, refusal(Refusal::NoSlot.number(), count));
             }
@@ -195,9 +204,9 @@ fn plan_runs(image: &[u8], mount: Mount, icb: LongAd, room: usize) -> Running
     ensures { RunsPlanned image.now (ran (disc image.now) (file_runs mount icb)) room result }
 {
     match resolve(image, mount, icb) {
-        Resolved::Refused(why, n) => alone(mount, 0, 0, refusal(why.number(), n)),
-        Resolved::Embedded(p) => plan_entry(mount, p, room),
-        Resolved::Chained(p, n) => {
+        Err(r) => alone(mount, 0, 0, refusal(r.why.number(), r.count)),
+        Ok(Resolved::Embedded(p)) => plan_entry(mount, p, room),
+        Ok(Resolved::Chained(p, n)) => {
             plan_chain(
                 image,
                 mount.at_entry(icb.location.partition_ref),
@@ -216,11 +225,9 @@ pub fn file_runs(image: &[u8], mount: Mount, icb: LongAd, row: &mut [[u64; 2]]) 
 {
     let mut l = plan_runs(image, mount, icb, row.len());
     let n = l.reply.length as usize;
-    let mut i = 0;
-    while i < n {
+    for i in 0..n {
         row[i] = [l.at, l.length];
         l = further_runs(image, l);
-        i += 1;
     }
     l.reply
 }

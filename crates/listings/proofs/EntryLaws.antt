@@ -1,4 +1,5 @@
 -- One entry read, written and compared, in the form that the functions on it ask for. Assumes nothing.
+use Rattle.std.specs.Prelude.{Result, Ok, Err}
 use mathlib.Core.Path.{◌≡◌, refl, sym, ap, ◌∙◌}
 use mathlib.Core.Bool.{Bool, true, false, ◌||◌, not}
 use mathlib.Core.List.{List, [], ◌∷◌, ◌++◌, append-nil, append_assoc}
@@ -18,7 +19,6 @@ use Rattle.disc.specs.Ask.Outcome.{answered, refused}
 use Rattle.disc.specs.declared.refusals.Refusal.{Refusal}
 use Rattle.disc.specs.declared.refusals.Refusal.TheVariants.{Ambiguous}
 use Rattle.disc.specs.Moves.{over}
-use Rattle.disc.proofs.RefusalLaws.{refusal-numbered}
 use Rattle.disc.proofs.MoveLaws.{over-fits}
 use Rattle.disc.proofs.ImageLaws.{split}
 use Rattle.records.specs.Bytes.{byte, u16at, u32at, le16, le32, six}
@@ -29,8 +29,8 @@ use Rattle.names.specs.Names.{Wrote, name_of, written, fold_of, is_named}
 use Rattle.names.specs.declared.matching.Fold.{Fold}
 use Rattle.names.specs.declared.matching.Fold.TheVariants.{Lower, AsIs}
 use Rattle.identifiers.specs.declared.FileIdentifierDescriptor.{FileIdentifierDescriptor}
-use Rattle.identifiers.specs.declared.IdentifierRead.{IdentifierRead}
-use Rattle.identifiers.specs.Identifiers.{read_identifier, identifier_read, recorded_name, name_at, name_end, next_at, bit, is_directory}
+use Rattle.disc.specs.Replies.{returned}
+use Rattle.identifiers.specs.Identifiers.{read_identifier, recorded_name, name_at, name_end, next_at, bit, is_directory}
 use Rattle.identifiers.specs.Inner.Wholes.{Whole}
 use Rattle.identifiers.proofs.IdentifierLaws.{identifier-read, read-identifier}
 use Rattle.listings.specs.Entries.{Entry, entry_of, entry_in, entry_read, is_skipped, name_in}
@@ -69,31 +69,26 @@ pub record Known (s : List ℕ) (e : Entry) : Type 0 where
   pub is : e ≡ entry_of s e.identifier
   pub whole : Whole s e.identifier
 
--- it is refused, and n is the refusal's number
-pub record Badly (check : Bool) (s : List ℕ) (n : ℕ) : Type 0 where
-  pub why : Refusal
-  pub is : entry_read check s ≡ refused why
-  pub numbered : n ≡ number why
+module _ (check : Bool) (s : List ℕ) (b : Bytes s) {r : Result FileIdentifierDescriptor Refusal} (p : r ≡ returned (read_identifier check s)) where
+  module _ {f : FileIdentifierDescriptor} (z : r ≡ Ok f) where
+    pub read-good : entry_read check s ≡ answered (entry_of s f)
+    unfolding entry_read
+    read-good = told (read_identifier check s) (sym z ∙ p)
+      where
+        told : (o : Outcome FileIdentifierDescriptor) → Ok f ≡ returned o → entry_in s o ≡ answered (entry_of s f)
+        told (answered x) e = let q : f ≡ x = cc in rw q
+        told (refused why) e = absurd (let y : ◌≡◌ {A = ℕ} 0 1 = cc in omega arith)
 
-module _ (check : Bool) (s : List ℕ) (b : Bytes s) {r : IdentifierRead} (p : r ≡ identifier_read (read_identifier check s)) where
-  pub read-good : r.answer ≡ 0 → entry_read check s ≡ answered (entry_of s r.descriptor)
+    pub read_whole : Whole s f
+    read_whole = read-identifier check s b p z
+
+  pub read-bad : {why : Refusal} → r ≡ Err why → entry_read check s ≡ refused why
   unfolding entry_read
-  read-good z = told (read_identifier check s) p
+  read-bad {why} z = told (read_identifier check s) (sym z ∙ p)
     where
-      told : (o : Outcome FileIdentifierDescriptor) → r ≡ identifier_read o → entry_in s o ≡ answered (entry_of s r.descriptor)
-      told (answered f) e = rw e
-      told (refused why) e = absurd (refusal-numbered why (rw e at z))
-
-  pub read_whole : r.answer ≡ 0 → Whole s r.descriptor
-  read_whole z = read-identifier check s b p z
-
-  pub read-bad : (r.answer ≡ 0 → ⊥) → Badly check s r.answer
-  unfolding entry_read
-  read-bad n = told (read_identifier check s) refl p
-    where
-      told : (o : Outcome FileIdentifierDescriptor) → read_identifier check s ≡ o → r ≡ identifier_read o → Badly check s r.answer
-      told (answered f) g e = absurd (n (ap (λ (x : IdentifierRead). x.answer) e))
-      told (refused why) g e = record { why = why; is = ap (entry_in s) g; numbered = ap (λ (x : IdentifierRead). x.answer) e }
+      told : (o : Outcome FileIdentifierDescriptor) → Err why ≡ returned o → entry_in s o ≡ refused why
+      told (answered x) e = absurd (let y : ◌≡◌ {A = ℕ} 0 1 = cc in omega arith)
+      told (refused w) e = cc
 
 pub known : (check : Bool) (s : List ℕ) → Bytes s → {e : Entry} → entry_read check s ≡ answered e → Known s e
 unfolding entry_read

@@ -1,9 +1,9 @@
 -- A directory's bytes with the bodies of its entries checked, deleted and parent entries among them: the same bytes without, with each entry that is
 -- parsed marked. So what is answered with the check is answered the same without. Assumes nothing.
+use Rattle.std.specs.Prelude.{Option}
 use mathlib.Core.Path.{◌≡◌, refl, sym, ◌∙◌}
 use mathlib.Core.Bool.{Bool, true, false}
 use mathlib.Core.List.{List, [], ◌∷◌}
-use mathlib.Core.Option.{Option}
 use Prim.Native.Nat.{ℕ, zero, suc, ◌-◌}
 use native.Mathlib.Omega.{arith}
 use lib.ListN.{length}

@@ -1,9 +1,9 @@
 -- What is proved of the choices of matching over a directory's entries: what each takes, how they agree, and that names which differ in a
 -- byte are told apart by the second. Assumes nothing.
+use Rattle.std.specs.Prelude.{Option, Some, None}
 use mathlib.Core.Path.{◌≡◌, refl, sym, ap, ◌∙◌}
 use mathlib.Core.Bool.{Bool, true, false}
 use mathlib.Core.List.{List, [], ◌∷◌, ◌++◌}
-use mathlib.Core.Option.{Option, none, some}
 use Prim.Native.Nat.{ℕ}
 use native.Mathlib.Omega.{arith}
 use lib.ListN.{length}
@@ -23,22 +23,22 @@ use Rattle.listings.specs.declared.matchings.Matching.TheVariants.{CaseIgnored, 
 use Rattle.listings.proofs.Promises.{answers-folded}
 use Rattle.listings.specs.Matchings.{NoneAnswers, takes_first, Several, Only, NoneAlike, Apart}
 
-none-some : {A B : Type 0} {a : A} → ◌≡◌ {A = Option A} none (some a) → B
+none-some : {A B : Type 0} {a : A} → ◌≡◌ {A = Option A} None (Some a) → B
 none-some e = absurd (let z : ◌≡◌ {A = ℕ} 0 1 = cc in omega arith)
 
 -- ---- what is done with the entries that match
 
 -- the first of them
 abbrev pub first_of : List Entry → Option Entry
-first_of [] = none
-first_of (e ∷ es) = some e
+first_of [] = None
+first_of (e ∷ es) = Some e
 
 pub all_first : (fold : ℕ → ℕ) (c : List ℕ) (es : List Entry) → first_of (all_named fold c es) ≡ first_named fold c es
 unfolding all_named first_named
 all_first fold c [] = refl
 all_first fold c (e ∷ es) = by (answers_to fold c e) (all_first fold c es)
   where
-    by : (t : Bool) → first_of (all_named fold c es) ≡ first_named fold c es → first_of (pick t (e ∷ all_named fold c es) (all_named fold c es)) ≡ pick t (some e) (first_named fold c es)
+    by : (t : Bool) → first_of (all_named fold c es) ≡ first_named fold c es → first_of (pick t (e ∷ all_named fold c es) (all_named fold c es)) ≡ pick t (Some e) (first_named fold c es)
     by true h = refl
     by false h = h
 
@@ -112,7 +112,7 @@ module _ (fold : ℕ → ℕ) (c : List ℕ) where
 -- ---- the only entry
 
 -- what the third choice answers is the only entry that matches
-pub only-answers : (xs : List Entry) {e : Entry} → chosen Unambiguous xs ≡ answered (some e) → xs ≡ e ∷ []
+pub only-answers : (xs : List Entry) {e : Entry} → chosen Unambiguous xs ≡ answered (Some e) → xs ≡ e ∷ []
 unfolding chosen
 only-answers [] h = absurd (let z : ◌≡◌ {A = ℕ} 0 1 = cc in omega arith)
 only-answers (x ∷ []) h = cc
@@ -133,7 +133,7 @@ module _ (fold : ℕ → ℕ) (c : List ℕ) where
 
   -- and every choice takes it
   pub only-wins : (m : Matching) (before : List Entry) (e : Entry) (rest : List Entry) → NoneAnswers fold c before → answers_to fold c e ≡ true → NoneAnswers fold c rest
-      → chosen m (all_named fold c (before ++ e ∷ rest)) ≡ answered (some e)
+      → chosen m (all_named fold c (before ++ e ∷ rest)) ≡ answered (Some e)
   unfolding chosen
   only-wins m before e rest n h k = rw (only-named before e rest n h k) refl
 
@@ -169,7 +169,7 @@ module _ (fold : ℕ → ℕ) (c : List ℕ) where
           }
 
 -- so an answer of the third choice is the only entry of its directory that matches
-pub chosen-only : (c : List ℕ) (es : List Entry) {e : Entry} → chosen Unambiguous (all_named lower c es) ≡ answered (some e) → Only lower c es e
+pub chosen-only : (c : List ℕ) (es : List Entry) {e : Entry} → chosen Unambiguous (all_named lower c es) ≡ answered (Some e) → Only lower c es e
 chosen-only c es h = one_only lower c es (only-answers (all_named lower c es) h)
 
 -- and wherever it answers, the first choice answers the same
@@ -198,29 +198,29 @@ answers-lower c e h = by (is_skipped e.identifier) (ltb 255 (length e.recorded))
     by false false (answered name) h = same-lower name c h
 
 -- the first entry of exactly a name is among those that match with case ignored
-written-among : (c : List ℕ) (es : List Entry) {e : Entry} → first_named as_is c es ≡ some e → all_named lower c es ≡ [] → ⊥
+written-among : (c : List ℕ) (es : List Entry) {e : Entry} → first_named as_is c es ≡ Some e → all_named lower c es ≡ [] → ⊥
 unfolding first_named all_named
 written-among c [] h k = none-some h
 written-among c (x ∷ es) {e} h k = by (λ p q. written-among c es p q) (answers_to as_is c x) (answers_to lower c x) refl refl h k
   where
-    by : (first_named as_is c es ≡ some e → all_named lower c es ≡ [] → ⊥) → (s t : Bool) → answers_to as_is c x ≡ s → answers_to lower c x ≡ t → pick s (some x) (first_named as_is c es) ≡ some e → pick t (x ∷ all_named lower c es) (all_named lower c es) ≡ [] → ⊥
+    by : (first_named as_is c es ≡ Some e → all_named lower c es ≡ [] → ⊥) → (s t : Bool) → answers_to as_is c x ≡ s → answers_to lower c x ≡ t → pick s (Some x) (first_named as_is c es) ≡ Some e → pick t (x ∷ all_named lower c es) (all_named lower c es) ≡ [] → ⊥
     by ih s true p q h k = absurd (let z : ◌≡◌ {A = ℕ} 0 1 = cc in omega arith)
     by ih true false p q h k = not-both (sym q ∙ answers-lower c x p)
     by ih false false p q h k = ih h k
 
-written-only : (c : List ℕ) (es : List Entry) {e f : Entry} → first_named as_is c es ≡ some e → all_named lower c es ≡ f ∷ [] → e ≡ f
+written-only : (c : List ℕ) (es : List Entry) {e f : Entry} → first_named as_is c es ≡ Some e → all_named lower c es ≡ f ∷ [] → e ≡ f
 unfolding first_named all_named
 written-only c [] h k = none-some h
 written-only c (x ∷ es) {e} {f} h k = by (λ p q. written-only c es p q) (answers_to as_is c x) (answers_to lower c x) refl refl h k
   where
-    by : (first_named as_is c es ≡ some e → all_named lower c es ≡ f ∷ [] → e ≡ f) → (s t : Bool) → answers_to as_is c x ≡ s → answers_to lower c x ≡ t → pick s (some x) (first_named as_is c es) ≡ some e → pick t (x ∷ all_named lower c es) (all_named lower c es) ≡ f ∷ [] → e ≡ f
+    by : (first_named as_is c es ≡ Some e → all_named lower c es ≡ f ∷ [] → e ≡ f) → (s t : Bool) → answers_to as_is c x ≡ s → answers_to lower c x ≡ t → pick s (Some x) (first_named as_is c es) ≡ Some e → pick t (x ∷ all_named lower c es) (all_named lower c es) ≡ f ∷ [] → e ≡ f
     by ih true true p q h k = cc
     by ih true false p q h k = not-both (sym q ∙ answers-lower c x p)
     by ih false true p q h k = absurd (written-among c es h (let z : all_named lower c es ≡ [] = cc in z))
     by ih false false p q h k = ih h k
 
 -- a component that is answered by the second choice and by the third has one entry
-pub written-agrees : (c : List ℕ) (es : List Entry) {e f : Entry} → chosen AsWritten (all_named as_is c es) ≡ answered (some e) → chosen Unambiguous (all_named lower c es) ≡ answered (some f) → e ≡ f
+pub written-agrees : (c : List ℕ) (es : List Entry) {e f : Entry} → chosen AsWritten (all_named as_is c es) ≡ answered (Some e) → chosen Unambiguous (all_named lower c es) ≡ answered (Some f) → e ≡ f
 written-agrees c es h k = written-only c es (chosen-is-first AsWritten as_is c es h) (only-answers (all_named lower c es) k)
 
 -- ---- where no two listed names are equal with case ignored
@@ -248,17 +248,17 @@ apart-agree c (e ∷ es) a = by (apart-agree c es a.1) (answers_to lower c e) re
     by ih false k = ih
 
 -- and so does the second, wherever it finds an entry
-pub apart-written : (c : List ℕ) (es : List Entry) → Apart es → {e : Entry} → chosen AsWritten (all_named as_is c es) ≡ answered (some e) → chosen CaseIgnored (all_named lower c es) ≡ answered (some e)
+pub apart-written : (c : List ℕ) (es : List Entry) → Apart es → {e : Entry} → chosen AsWritten (all_named as_is c es) ≡ answered (Some e) → chosen CaseIgnored (all_named lower c es) ≡ answered (Some e)
 apart-written c es a {e} h = by (chosen Unambiguous (all_named lower c es)) refl
   where
-    by : (o : Outcome (Option Entry)) → chosen Unambiguous (all_named lower c es) ≡ o → chosen CaseIgnored (all_named lower c es) ≡ answered (some e)
-    by (answered (some f)) k = let z : e ≡ f = written-agrees c es h k in only-first (all_named lower c es) k ∙ rw z refl
-    by (answered none) k = absurd (written-among c es (chosen-is-first AsWritten as_is c es h) (by-none (all_named lower c es) k))
+    by : (o : Outcome (Option Entry)) → chosen Unambiguous (all_named lower c es) ≡ o → chosen CaseIgnored (all_named lower c es) ≡ answered (Some e)
+    by (answered (Some f)) k = let z : e ≡ f = written-agrees c es h k in only-first (all_named lower c es) k ∙ rw z refl
+    by (answered None) k = absurd (written-among c es (chosen-is-first AsWritten as_is c es h) (by-none (all_named lower c es) k))
       where
-        by-none : (xs : List Entry) → chosen Unambiguous xs ≡ answered none → xs ≡ []
+        by-none : (xs : List Entry) → chosen Unambiguous xs ≡ answered None → xs ≡ []
         by-none xs q = none_left xs (chosen-some Unambiguous xs q)
           where
-            none_left : (xs : List Entry) → first_of xs ≡ none → xs ≡ []
+            none_left : (xs : List Entry) → first_of xs ≡ None → xs ≡ []
             none_left [] p = refl
             none_left (x ∷ xs) p = none-some (sym p)
     by (refused why) k = absurd (let z = sym (apart-agree c es a) ∙ k in let y = chosen-refused CaseIgnored (all_named lower c es) z in let x : ◌≡◌ {A = ℕ} 0 1 = cc in omega arith)

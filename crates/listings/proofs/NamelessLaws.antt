@@ -1,10 +1,10 @@
 -- A directory that differs in the bytes of names that are empty by their ids alone: the same listing, and the same entry of each name.
 -- Assumes nothing.
+use Rattle.std.specs.Prelude.{Some}
 use mathlib.Core.Path.{◌≡◌, refl, sym, ap, ◌∙◌}
 use mathlib.Core.Bool.{Bool, true, false}
 use mathlib.Core.List.{List, [], ◌∷◌}
 use mathlib.Core.Logic.{◌⊎◌, inl, inr}
-use mathlib.Core.Option.{some}
 use Prim.Native.Nat.{ℕ}
 use Rattle.disc.specs.Choice.{pick}
 use Rattle.disc.specs.Ask.Outcome.{answered}
@@ -74,7 +74,7 @@ alike-first fold component [] (f ∷ fs) p = absurd p
 alike-first fold component (e ∷ es) [] p = absurd p
 alike-first fold component (e ∷ es) (f ∷ fs) p =
     rw (alike-answers p.0 fold component)
-    (elim (answers_to fold component f) as (λ b. named_to (pick b (some e) (first_named fold component es)) ≡ named_to (pick b (some f) (first_named fold component fs)))
+    (elim (answers_to fold component f) as (λ b. named_to (pick b (Some e) (first_named fold component es)) ≡ named_to (pick b (Some f) (first_named fold component fs)))
     [ true ↦ rw p.0.identified | false ↦ alike-first fold component es fs p.1 ])
 
 -- of a directory's bytes: the listing, and what is found by a component under each choice

@@ -1,4 +1,4 @@
--- Laws of a path's components, in the form that the loops ask for. Assumes nothing.
+-- Laws of a path's components, in the form that the code asks for. Assumes nothing.
 use mathlib.Core.Path.{◌≡◌, refl, ap}
 use mathlib.Core.Bool.{Bool, true, false}
 use mathlib.Core.List.{List, [], ◌∷◌}
@@ -6,61 +6,29 @@ use Prim.Native.Nat.{ℕ, suc, ◌+◌, ◌<◌, ◌≤◌, zero-le}
 use native.Mathlib.Nat.{add-zero, add-suc, suc-add}
 use native.Mathlib.Numerals.{add-one}
 use native.Mathlib.Omega.{arith}
-use lib.ListN.{length, get_or, take, drop, length-drop, drop_of_length-le}
-use lib.Seq.{drop-cons, drop-drop}
+use lib.ListN.{length, take, drop, length-drop}
+use lib.Seq.{drop-drop}
 use lib.Dec.{eqb}
 use borrow.Author.Tests.{eq-eqb, ne_eqb}
 use Rattle.disc.proofs.PickLaws.{pick-both}
 use Rattle.disc.specs.Choice.{pick}
+use Rattle.std.proofs.Common.{Option}
+use Rattle.std.specs.List.{AllWithin, HoldsAt}
+use Rattle.std.specs.Option.{MatchOption, unwrap_or}
+use Rattle.std.proofs.lemmas.Iterator.{index_from_first}
 use Rattle.listings.specs.Paths.{Component, front, behind, components_from, components, slashes, unless_empty, InPath}
 
--- ---- the loop over slashes has come to i
+-- ---- what is counted: the slashes before the first other byte, and the bytes before the first slash
 
-pub record Skipping (path : List ℕ) (at i : ℕ) : Type 0 where
-  pub rest : i + slashes (drop i path) ≡ at + slashes (drop at path)
+pub slashes-counted : (s : List ℕ) (r : Option ℕ)
+    → MatchOption r (AllWithin (λ b. b ≡ 0x2f) s 0 (length s)) (λ i. (i < length s) × HoldsAt (λ b. b ≡ 0x2f → ⊥) s i × AllWithin (λ b. b ≡ 0x2f) s 0 i) → slashes s ≡ unwrap_or r (length s)
+unfolding slashes
+slashes-counted = index_from_first slashes (λ b. b ≡ 0x2f → ⊥) (λ b. b ≡ 0x2f) refl (λ b s h. simp (ne_eqb _ _ h)) (λ b s h. simp (eq-eqb _ _ h) (rw add-one))
 
-module _ {path : List ℕ} {at i : ℕ} (p : Skipping path at i) where
-  pub skip-next : i < length path → get_or path i 0 ≡ 0x2f → Skipping path at (i + 1)
-  unfolding slashes
-  skip-next h e =
-      let k : slashes (drop i path) ≡ suc (slashes (drop (i + 1) path)) = rw (add-one, drop-cons path i 0) (simp (eq-eqb _ _ e)) in
-      record { rest = omega arith }
-
-  pub skip-stops : i < length path → (get_or path i 0 ≡ 0x2f → ⊥) → i ≡ at + slashes (drop at path)
-  unfolding slashes
-  skip-stops h e =
-      let k : slashes (drop i path) ≡ 0 = rw (drop-cons path i 0) (simp (ne_eqb _ _ e)) in
-      omega arith
-
-  pub skip-ends : length path ≤ i → i ≡ at + slashes (drop at path)
-  unfolding slashes
-  skip-ends h =
-      let k : slashes (drop i path) ≡ 0 = rw (drop_of_length-le path) in
-      omega arith
-
--- ---- the loop over a component has come to i
-
-pub record Spelling (path : List ℕ) (at i : ℕ) : Type 0 where
-  pub rest : i + length (front (drop i path)) ≡ at + length (front (drop at path))
-
-module _ {path : List ℕ} {at i : ℕ} (p : Spelling path at i) where
-  pub spell_next : i < length path → (get_or path i 0 ≡ 0x2f → ⊥) → Spelling path at (i + 1)
-  unfolding front
-  spell_next h e =
-      let k : length (front (drop i path)) ≡ suc (length (front (drop (i + 1) path))) = rw (add-one, drop-cons path i 0) (simp (ne_eqb _ _ e)) in
-      record { rest = omega arith }
-
-  pub spell-stops : i < length path → get_or path i 0 ≡ 0x2f → i ≡ at + length (front (drop at path))
-  unfolding front
-  spell-stops h e =
-      let k : length (front (drop i path)) ≡ 0 = rw (drop-cons path i 0) (simp (eq-eqb _ _ e)) in
-      omega arith
-
-  pub spell-ends : length path ≤ i → i ≡ at + length (front (drop at path))
-  unfolding front
-  spell-ends h =
-      let k : length (front (drop i path)) ≡ 0 = rw (drop_of_length-le path) in
-      omega arith
+pub front-counted : (s : List ℕ) (r : Option ℕ)
+    → MatchOption r (AllWithin (λ b. b ≡ 0x2f → ⊥) s 0 (length s)) (λ i. (i < length s) × HoldsAt (λ b. b ≡ 0x2f) s i × AllWithin (λ b. b ≡ 0x2f → ⊥) s 0 i) → length (front s) ≡ unwrap_or r (length s)
+unfolding front
+front-counted = index_from_first (λ s. length (front s)) (λ b. b ≡ 0x2f) (λ b. b ≡ 0x2f → ⊥) refl (λ b s h. simp (eq-eqb _ _ h)) (λ b s h. simp (ne_eqb _ _ h) (rw add-one))
 
 -- ---- components, by what stands at the front
 

@@ -1,9 +1,9 @@
 -- What is proved of a directory's bytes: the first entry of a name wins, what it is to have the name, that no name is too long for its
 -- record, that each contract leaves one result, and worked cases. Assumes nothing.
+use Rattle.std.specs.Prelude.{Some, None}
 use mathlib.Core.Path.{◌≡◌, refl, sym, ◌∙◌}
 use mathlib.Core.Bool.{Bool, true, false}
 use mathlib.Core.List.{List, [], ◌∷◌, ◌++◌, map}
-use mathlib.Core.Option.{none, some}
 use Prim.Native.Nat.{ℕ, zero, suc, ◌-◌, ◌≤◌}
 use native.Mathlib.Omega.{arith}
 use lib.ListN.{length}
@@ -40,13 +40,13 @@ use Rattle.listings.specs.Example.{entry_of_a, entry_a}
 module _ (fold : ℕ → ℕ) where
   -- whatever stands behind it, an entry that answers is taken where none before it does
   pub first-wins : (component : List ℕ) (before : List Entry) (e : Entry) (rest : List Entry) → (NoneAnswers fold) component before → answers_to fold component e ≡ true
-      → first_named fold component (before ++ e ∷ rest) ≡ some e
+      → first_named fold component (before ++ e ∷ rest) ≡ Some e
   unfolding first_named NoneAnswers
   first-wins component [] e rest n h = rw h
   first-wins component (x ∷ more) e rest n h = rw n.0 (first-wins component more e rest n.1 h)
 
   -- and no entry is found where none answers
-  pub none_found : (component : List ℕ) (all : List Entry) → (NoneAnswers fold) component all → first_named fold component all ≡ none
+  pub none_found : (component : List ℕ) (all : List Entry) → (NoneAnswers fold) component all → first_named fold component all ≡ None
   unfolding first_named NoneAnswers
   none_found component [] n = refl
   none_found component (x ∷ more) n = rw n.0 (none_found component more n.1)

@@ -1,8 +1,8 @@
 -- Which names an entry that was read answers to, and what its record in a listing says. Assumes nothing.
+use Rattle.std.specs.Prelude.{Some, Ok}
 use mathlib.Core.Path.{◌≡◌, refl, sym, ap, ◌∙◌}
 use mathlib.Core.Bool.{Bool, true, false}
 use mathlib.Core.List.{List, [], ◌∷◌, ◌++◌, map, append_assoc}
-use mathlib.Core.Option.{some}
 use Prim.Native.Nat.{ℕ, zero, suc, ◌-◌, ◌≤◌}
 use native.Mathlib.Omega.{arith}
 use lib.ListN.{length, drop, length-take}
@@ -16,7 +16,6 @@ use Rattle.records.specs.Bytes.{u16at}
 use Rattle.records.specs.Allocations.{long_of}
 use Rattle.records.proofs.Numbers.{u16-le16}
 use Rattle.names.specs.Names.{name_of, written, size_of, same_name, matched, is_named}
-use Rattle.names.specs.declared.dstrings.NameSize.TheVariants.{Size}
 use Rattle.names.proofs.Promises.{same-folded}
 use Rattle.identifiers.specs.Identifiers.{recorded_name, next_at}
 use Rattle.listings.specs.Entries.{Entry, entry_read, in_front, is_skipped, name_in, entries_from, entries}
@@ -81,7 +80,7 @@ module _ {e : Entry} (w : WasRead e) where
         few : length e.recorded ≤ 255
         few = rw (recorded-there, length-take) (omega (arith, stands.whole.few, stands.whole.recorded))
 
-        by : (o : Outcome (List ℕ)) {n : ℕ} → size_of o ≡ Size n → map fold (written o) ≡ map fold c → matched fold o c ≡ true
+        by : (o : Outcome (List ℕ)) {n : ℕ} → size_of o ≡ Ok n → map fold (written o) ≡ map fold c → matched fold o c ≡ true
         by (answered name) z h = (same-folded fold name c).1 h
         by (refused why) z h = absurd (let y : ◌≡◌ {A = ℕ} 0 1 = cc in omega arith)
 
@@ -104,12 +103,12 @@ module _ {e : Entry} (w : WasRead e) where
 
 module _ (fold : ℕ → ℕ) where
   -- an entry that is found answers to its name
-  pub found-answers : (c : List ℕ) (es : List Entry) {e : Entry} → first_named fold c es ≡ some e → answers_to fold c e ≡ true
+  pub found-answers : (c : List ℕ) (es : List Entry) {e : Entry} → first_named fold c es ≡ Some e → answers_to fold c e ≡ true
   unfolding first_named
   found-answers c [] q = absurd (let z : ◌≡◌ {A = ℕ} 0 1 = cc in omega arith)
   found-answers c (x ∷ es) {e} q = by (answers_to fold c x) refl (λ r. found-answers c es r) q
     where
-      by : (t : Bool) → answers_to fold c x ≡ t → (first_named fold c es ≡ some e → answers_to fold c e ≡ true) → pick t (some x) (first_named fold c es) ≡ some e → answers_to fold c e ≡ true
+      by : (t : Bool) → answers_to fold c x ≡ t → (first_named fold c es ≡ Some e → answers_to fold c e ≡ true) → pick t (Some x) (first_named fold c es) ≡ Some e → answers_to fold c e ≡ true
       by true k f q = let z : x ≡ e = cc in rw z at k
       by false k f q = f q
 

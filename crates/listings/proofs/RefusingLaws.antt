@@ -1,8 +1,8 @@
 -- Which refusals a directory's bytes say by themselves: 2, 10 where bodies are checked, and 9 where a component is to match one entry alone. Assumes nothing.
+use Rattle.std.specs.Prelude.{Option}
 use mathlib.Core.Path.{◌≡◌, refl, sym, subst}
 use mathlib.Core.Bool.{Bool, true}
 use mathlib.Core.List.{List}
-use mathlib.Core.Option.{Option}
 use Prim.Native.Nat.{ℕ}
 use Rattle.disc.specs.Ask.{Outcome, ended, and_then}
 use Rattle.disc.specs.Ask.Outcome.{answered, refused}

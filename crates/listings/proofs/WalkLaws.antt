@@ -1,4 +1,5 @@
 -- How a directory's entries follow each other, and what the loops over them use. Assumes nothing.
+use Rattle.std.specs.Prelude.{Result, Ok, Err}
 use mathlib.Core.Path.{◌≡◌, refl, sym, ap, ◌∙◌}
 use mathlib.Core.Bool.{Bool, true, false}
 use mathlib.Core.List.{List, [], ◌∷◌, ◌++◌, append-nil, append_assoc}
@@ -21,17 +22,16 @@ use Rattle.disc.specs.declared.refusals.Refusal.{Refusal}
 use Rattle.disc.specs.declared.refusals.Refusal.TheVariants.{NoRoom}
 use Rattle.disc.specs.declared.replies.Reply.{Reply}
 use Rattle.disc.proofs.MoveLaws.{over-fits, sets-append, sets-whole}
-use Rattle.disc.proofs.RefusalLaws.{refusal-numbered}
 use Rattle.disc.proofs.ReplyLaws.{reply-refused, reply-full, reply-done}
-use Rattle.identifiers.specs.declared.IdentifierRead.{IdentifierRead}
-use Rattle.identifiers.specs.Identifiers.{read_identifier, identifier_read, name_at, name_end, next_at}
+use Rattle.disc.specs.Replies.{returned}
+use Rattle.identifiers.specs.declared.FileIdentifierDescriptor.{FileIdentifierDescriptor}
+use Rattle.identifiers.specs.Identifiers.{read_identifier, name_at, name_end, next_at}
 use Rattle.identifiers.specs.Inner.Wholes.{Whole}
 use Rattle.listings.specs.Entries.{Entry, entry_of, entry_read, is_skipped, in_front, entries_from, entries}
 use Rattle.listings.specs.Listings.{entry_record, records, listing, fold_in, answers_to, all_named, chosen, find_in, unnamed, named_of}
 use Rattle.listings.specs.Inner.Passes.{tail, GoodAt, Comes, Puts, size_of_listing, settled, joined_of, noted_of}
 use Rattle.listings.specs.declared.directory_entries.Put.{Put}
 use Rattle.listings.specs.declared.finds.Named.{Named}
-use Rattle.listings.specs.declared.listing.ListingSize.{ListingSize}
 use Rattle.listings.specs.declared.matchings.Matching.{Matching}
 use Rattle.listings.specs.declared.matchings.Matching.TheVariants.{CaseIgnored, AsWritten, Unambiguous}
 use Rattle.listings.proofs.EntryLaws.{tail-over, read-good, read_whole, read-bad, record-length}
@@ -92,36 +92,36 @@ module _ (check : Bool) (raw : List ℕ) (at : ℕ) where
         ap (entries check) (sym (tail-is raw at)) ∙ front-next check (tail raw at) (rw (tail-length raw at) (omega arith)) g ∙ ap (λ l. in_front e (entries check l)) z
 
     -- what reading the entry there says
-    pub comes : Bytes raw → {r : IdentifierRead} → r ≡ identifier_read (read_identifier check (tail raw at)) → Comes check raw at r
-    comes a p =
-        let b : Bytes (tail raw at) = λ i. rw (tail-is raw at, get_or-drop) (a (at + i)) in
-        record {
-          good = λ z.
-              let w = read_whole check (tail raw at) b p z in
-              record {
-                is = at_next (read-good check (tail raw at) b p z) w.next;
-                whole = w;
-                inside = omega (arith, w.within, tail-length raw at);
-                near = omega (arith, w.within, w.near, tail-length raw at);
-              };
-          bad = λ n.
-              let w = read-bad check (tail raw at) b p n in
-              record { why = w.why; is = at-bad w.is; numbered = w.numbered };
-        }
+    pub comes : Bytes raw → {r : Result FileIdentifierDescriptor Refusal} → r ≡ returned (read_identifier check (tail raw at)) → Comes check raw at r
+    comes a {r} p = told r p
+      where
+        b : Bytes (tail raw at)
+        b i = rw (tail-is raw at, get_or-drop) (a (at + i))
+
+        told : (r : Result FileIdentifierDescriptor Refusal) → r ≡ returned (read_identifier check (tail raw at)) → Comes check raw at r
+        told (Ok f) q =
+            let w = read_whole check (tail raw at) b q refl in
+            record {
+              is = at_next (read-good check (tail raw at) b q refl) w.next;
+              whole = w;
+              inside = omega (arith, w.within, tail-length raw at);
+              near = omega (arith, w.within, w.near, tail-length raw at);
+            }
+        told (Err why) q = at-bad (read-bad check (tail raw at) b q refl)
 
 -- ---- an entry that was read at `at`, in the form that the loops ask for
 
-module _ (check : Bool) (raw : List ℕ) (at : ℕ) {r : IdentifierRead} (p : Comes check raw at r) (z : r.answer ≡ 0) where
-  good : GoodAt check raw at r.descriptor
-  good = p.good z
+module _ (check : Bool) (raw : List ℕ) (at : ℕ) {r : Result FileIdentifierDescriptor Refusal} (p : Comes check raw at r) {f : FileIdentifierDescriptor} (z : r ≡ Ok f) where
+  good : GoodAt check raw at f
+  good = rw z at p
 
-  pub name-inside : r.descriptor.name_at + r.descriptor.name_length ≤ length (tail raw at)
+  pub name-inside : f.name_at + f.name_length ≤ length (tail raw at)
   name-inside = good.whole.within
 
-  pub at_less : at + 38 ≤ length raw → length raw + 3 - (at + r.descriptor.total_size) < length raw + 3 - at
+  pub at_less : at + 38 ≤ length raw → length raw + 3 - (at + f.total_size) < length raw + 3 - at
   at_less h = omega (arith, good.whole.head, good.whole.on)
 
-  pub next_fits : length raw * 1 < 2 ^ 63 → Fits w64 (at + r.descriptor.total_size)
+  pub next_fits : length raw * 1 < 2 ^ 63 → Fits w64 (at + f.total_size)
   next_fits k = omega (arith, good.near)
 
 -- ---- the loop that measures has come to `at`
@@ -131,9 +131,9 @@ pick-le true m = zero-le
 pick-le false m = omega arith
 
 -- what was measured, with what is left
-abbrev size_with : ℕ → Outcome (List Entry) → ListingSize
-size_with n (answered es) = record { answer = 0; size = n + length (records es) }
-size_with n (refused why) = record { answer = number why; size = 0 }
+abbrev size_with : ℕ → Outcome (List Entry) → Result ℕ Refusal
+size_with n (answered es) = Ok (n + length (records es))
+size_with n (refused why) = Err why
 
 size-starts : (o : Outcome (List Entry)) → size_with 0 o ≡ size_of_listing o
 size-starts (answered es) = rw zero-add
@@ -155,38 +155,38 @@ pub measure-starts : (check : Bool) (raw : List ℕ) → Measuring check raw 0 0
 measure-starts check raw = record { within = zero-le; small = zero-le; rest = size-starts (entries check raw) }
 
 module _ {check : Bool} {raw : List ℕ} {n at : ℕ} (m : Measuring check raw n at) where
-  module _ {r : IdentifierRead} (p : Comes check raw at r) where
-    pub measure-bad : (r.answer ≡ 0 → ⊥) → record { answer = r.answer; size = 0 } ≡ size_of_listing (entries check raw)
-    measure-bad g = let w = p.bad g in rw w.numbered (rw w.is at m.rest)
+  module _ {r : Result FileIdentifierDescriptor Refusal} (p : Comes check raw at r) where
+    pub measure-bad : {why : Refusal} → r ≡ Err why → Err why ≡ size_of_listing (entries check raw)
+    measure-bad {why} z = let w : entries check (drop at raw) ≡ refused why = rw z at p in rw w at m.rest
 
-    module _ (z : r.answer ≡ 0) where
-      abbrev g : GoodAt check raw at r.descriptor
-      g = p.good z
+    module _ {f : FileIdentifierDescriptor} (z : r ≡ Ok f) where
+      abbrev g : GoodAt check raw at f
+      g = rw z at p
 
-      pub name-fits : length raw * 1 < 2 ^ 63 → 21 + r.descriptor.name_size < 18446744073709551616
+      pub name-fits : length raw * 1 < 2 ^ 63 → 21 + f.name_size < 18446744073709551616
       name-fits k = omega (arith, g.whole.short, g.whole.head, g.inside)
 
-      module _ {v : ℕ} (e : v ≡ pick (is_skipped r.descriptor) 0 (21 + r.descriptor.name_size)) where
-        bound : n + v ≤ 2 * (at + (r.descriptor.name_at + r.descriptor.name_length))
-        bound = omega (arith, m.small, pick-le (is_skipped r.descriptor) (21 + r.descriptor.name_size), g.whole.short, g.whole.head)
+      module _ {v : ℕ} (e : v ≡ pick (is_skipped f) 0 (21 + f.name_size)) where
+        bound : n + v ≤ 2 * (at + (f.name_at + f.name_length))
+        bound = omega (arith, m.small, pick-le (is_skipped f) (21 + f.name_size), g.whole.short, g.whole.head)
 
         pub size_fits : length raw * 1 < 2 ^ 63 → Fits w64 (n + v)
         size_fits k = omega (arith, bound, g.inside)
 
-        pub measure-next : Measuring check raw (n + v) (at + r.descriptor.total_size)
+        pub measure-next : Measuring check raw (n + v) (at + f.total_size)
         measure-next =
             record {
               within = g.near;
               small = omega (arith, bound, g.whole.on);
               rest =
-                  size-turn n (entry_of (tail raw at) r.descriptor) (entries check (drop (at + r.descriptor.total_size) raw)) (e ∙ sym (record-length g.whole))
+                  size-turn n (entry_of (tail raw at) f) (entries check (drop (at + f.total_size) raw)) (e ∙ sym (record-length g.whole))
                   ∙ (rw g.is at m.rest);
             }
 
-  pub measure-ends : length raw < at + 38 → record { answer = 0; size = n } ≡ size_of_listing (entries check raw)
+  pub measure-ends : length raw < at + 38 → Ok n ≡ size_of_listing (entries check raw)
   unfolding records
   measure-ends h =
-      let k : record { answer = 0; size = n + 0 } ≡ size_of_listing (entries check raw) = rw (at-end check raw at h) at m.rest in
+      let k : Ok (n + 0) ≡ size_of_listing (entries check raw) = rw (at-end check raw at h) at m.rest in
       rw (add-zero n) at k
 
 -- ---- the loop that writes has come to `at`
@@ -337,24 +337,24 @@ module _ {check : Bool} {m : Matching} {component raw : List ℕ} {found : Named
   unfolding all_named
   find-ends h = f.is ∙ ap (λ l. named_of (chosen m l)) (sym (append-nil f.matches)) ∙ (rw (at-end check raw at h) at f.rest)
 
-  module _ {r : IdentifierRead} (p : Comes check raw at r) where
-    pub find-bad : (r.answer ≡ 0 → ⊥) → {a : Named} → a ≡ unnamed r.answer → a ≡ named_of (find_in check m component raw)
-    find-bad n e = let w = p.bad n in e ∙ rw w.numbered (rw w.is at f.rest)
+  module _ {r : Result FileIdentifierDescriptor Refusal} (p : Comes check raw at r) where
+    pub find-bad : {why : Refusal} → r ≡ Err why → {n : ℕ} → n ≡ number why → {a : Named} → a ≡ unnamed n → a ≡ named_of (find_in check m component raw)
+    find-bad {why} z k e = let w : entries check (drop at raw) ≡ refused why = rw z at p in e ∙ rw k (rw w at f.rest)
 
-    pub find-fits : r.answer ≡ 0 → Fits w64 (at + r.descriptor.total_size)
+    pub find-fits : {d : FileIdentifierDescriptor} → r ≡ Ok d → Fits w64 (at + d.total_size)
     find-fits z = next_fits check raw at p z f.small
 
-    pub find-next : r.answer ≡ 0 → {a : Named} → (Whole (tail raw at) r.descriptor → a ≡ noted_of m found component (entry_of (tail raw at) r.descriptor))
-        → Finding check m component raw a (at + r.descriptor.total_size)
-    find-next z e =
-        let g = p.good z in
-        let x : Entry = entry_of (tail raw at) r.descriptor in
+    pub find-next : {d : FileIdentifierDescriptor} → r ≡ Ok d → {a : Named} → (Whole (tail raw at) d → a ≡ noted_of m found component (entry_of (tail raw at) d))
+        → Finding check m component raw a (at + d.total_size)
+    find-next {d} z e =
+        let g : GoodAt check raw at d = rw z at p in
+        let x : Entry = entry_of (tail raw at) d in
         record {
           small = f.small;
           within = g.near;
           matches = f.matches ++ pick (answers_to (fold_in m) component x) (x ∷ []) [];
           is = e g.whole ∙ ap (λ n. noted_of m n component x) f.is ∙ noted-chosen m component x f.matches;
-          rest = chosen-turn m component f.matches x (entries check (drop (at + r.descriptor.total_size) raw)) ∙ (rw g.is at f.rest);
+          rest = chosen-turn m component f.matches x (entries check (drop (at + d.total_size) raw)) ∙ (rw g.is at f.rest);
         }
 
 -- ---- the listing, by what was measured
@@ -367,32 +367,32 @@ done-listing check raw {es} are {n} q {d} h w =
     let k : length (records es) ≡ length (mid_of 0 (n - 0) d) = simp (length-take, length-drop) (omega arith) in
     rw (all_listed check raw are, w k, q) (reply-done (records es) 0 0 l refl (rw (over-fits (records es) d l, sub-zero)))
 
-module _ (check : Bool) (raw : List ℕ) {m : ListingSize} (p : m ≡ size_of_listing (entries check raw)) where
-  pub list-bad : (m.answer ≡ 0 → ⊥) → {d : List ℕ} {reply : Reply} → reply ≡ record { answer = m.answer; count = 0; length = 0 } → Replied NoRoom (told (listing check raw)) d d reply
+module _ (check : Bool) (raw : List ℕ) {m : Result ℕ Refusal} (p : m ≡ size_of_listing (entries check raw)) where
+  pub list-bad : {why : Refusal} → m ≡ Err why → {n : ℕ} → n ≡ number why → {d : List ℕ} {reply : Reply} → reply ≡ record { answer = n; count = 0; length = 0 } → Replied NoRoom (told (listing check raw)) d d reply
   unfolding listing
-  list-bad n {d} {reply} q = by (entries check raw) p
+  list-bad {why} z k {d} {reply} q = by (entries check raw) (sym z ∙ p)
     where
-      by : (o : Outcome (List Entry)) → m ≡ size_of_listing o → Replied NoRoom (told (and_then o (λ es. answered (records es)))) d d reply
-      by (answered es) e = absurd (n (rw e))
-      by (refused why) e = reply-refused why 0 0 refl (q ∙ rw e)
+      by : (o : Outcome (List Entry)) → Err why ≡ size_of_listing o → Replied NoRoom (told (and_then o (λ es. answered (records es)))) d d reply
+      by (answered es) e = absurd (let y : ◌≡◌ {A = ℕ} 0 1 = cc in omega arith)
+      by (refused w) e = let v : why ≡ w = cc in reply-refused w 0 0 refl (q ∙ rw (k, v))
 
-  module _ (z : m.answer ≡ 0) where
+  module _ {n : ℕ} (z : m ≡ Ok n) where
     -- the entries that were measured
     record Sized : Type 0 where
       es : List Entry
       are : entries check raw ≡ answered es
-      size : m.size ≡ length (records es)
+      size : n ≡ length (records es)
 
     sized : Sized
-    sized = by (entries check raw) refl
+    sized = by (entries check raw) refl (sym z ∙ p)
       where
-        by : (o : Outcome (List Entry)) → entries check raw ≡ o → Sized
-        by (answered es) e = record { es = es; are = e; size = rw (p, e) }
-        by (refused why) e = absurd (refusal-numbered why (sym (ap (λ (x : ListingSize). x.answer) (p ∙ ap size_of_listing e)) ∙ z))
+        by : (o : Outcome (List Entry)) → entries check raw ≡ o → Ok n ≡ size_of_listing (entries check raw) → Sized
+        by (answered es) e q = let k : Ok n ≡ size_of_listing (answered es) = rw e at q in record { es = es; are = e; size = cc }
+        by (refused why) e q = absurd (let k : Ok n ≡ size_of_listing (refused why) = rw e at q in let y : ◌≡◌ {A = ℕ} 0 1 = cc in omega arith)
 
-    pub list_full : {d : List ℕ} → length d < m.size → {a : ℕ} {reply : Reply} → a ≡ number NoRoom → reply ≡ record { answer = a; count = 0; length = 0 } → Replied NoRoom (told (listing check raw)) d d reply
+    pub list_full : {d : List ℕ} → length d < n → {a : ℕ} {reply : Reply} → a ≡ number NoRoom → reply ≡ record { answer = a; count = 0; length = 0 } → Replied NoRoom (told (listing check raw)) d d reply
     list_full h e q = rw (all_listed check raw sized.are) (reply-full (records sized.es) 0 0 (omega (arith, sized.size)) refl (q ∙ rw e))
 
-    pub list_done : {d ys : List ℕ} → m.size ≤ length d → ((es : List Entry) → entries false raw ≡ answered es → length (records es) ≡ length (mid_of 0 (m.size - 0) d) → ys ≡ records es)
-        → Replied NoRoom (told (listing check raw)) d (put_mid 0 (m.size - 0) d ys) (record { answer = 0; count = 0; length = m.size })
+    pub list_done : {d ys : List ℕ} → n ≤ length d → ((es : List Entry) → entries false raw ≡ answered es → length (records es) ≡ length (mid_of 0 (n - 0) d) → ys ≡ records es)
+        → Replied NoRoom (told (listing check raw)) d (put_mid 0 (n - 0) d ys) (record { answer = 0; count = 0; length = n })
     list_done h w = done-listing check raw sized.are sized.size h (w sized.es (entries-unchecked check raw sized.are))

@@ -1,6 +1,5 @@
 -- What a directory's bytes list, and which entry has a name, by a choice of matching: RULES 8.7 to 8.10, 8.15 and 8.22 to 8.24.
-use Rattle.std.specs.Prelude.{ℕ, Bool, true, false, List, [], ◌∷◌, ◌++◌, length, eqb}
-use Rattle.std.proofs.Math.Option.{Option, none, some}
+use Rattle.std.specs.Prelude.{ℕ, Bool, true, false, List, [], ◌∷◌, ◌++◌, length, eqb, Option, Some, None}
 use Rattle.disc.specs.Choice.{pick}
 use Rattle.disc.specs.Refusals.{number}
 use Rattle.disc.specs.Ask.{Outcome, and_then}
@@ -64,10 +63,10 @@ all_named fold component (e ∷ es) = pick (answers_to fold component e) (e ∷ 
 
 -- which matching entry is taken: none if there is none, the only one, and of two or more the first, or a refusal
 unfoldable pub chosen : Matching → List Entry → Outcome (Option Entry)
-chosen m [] = answered none
-chosen m (e ∷ []) = answered (some e)
-chosen CaseIgnored (e ∷ f ∷ es) = answered (some e)
-chosen AsWritten (e ∷ f ∷ es) = answered (some e)
+chosen m [] = answered None
+chosen m (e ∷ []) = answered (Some e)
+chosen CaseIgnored (e ∷ f ∷ es) = answered (Some e)
+chosen AsWritten (e ∷ f ∷ es) = answered (Some e)
 chosen Unambiguous (e ∷ f ∷ es) = refused Ambiguous
 
 -- the whole directory is parsed before a name is matched
@@ -76,16 +75,16 @@ find_in check m component s = and_then (entries check s) (λ es. chosen m (all_n
 
 -- the first of the entries that match: what the first two choices take
 unfoldable pub first_named : (ℕ → ℕ) → List ℕ → List Entry → Option Entry
-first_named fold component [] = none
-first_named fold component (e ∷ es) = pick (answers_to fold component e) (some e) (first_named fold component es)
+first_named fold component [] = None
+first_named fold component (e ∷ es) = pick (answers_to fold component e) (Some e) (first_named fold component es)
 
 -- the same as the code reports it
 abbrev pub unnamed : ℕ → Named
 unnamed n = record { answer = n; found = false; icb = no_long; directory = false }
 
 abbrev pub named_to : Option Entry → Named
-named_to none = unnamed 0
-named_to (some e) = record { answer = 0; found = true; icb = e.identifier.icb; directory = is_directory e.identifier }
+named_to None = unnamed 0
+named_to (Some e) = record { answer = 0; found = true; icb = e.identifier.icb; directory = is_directory e.identifier }
 
 abbrev pub named_of : Outcome (Option Entry) → Named
 named_of (answered o) = named_to o

@@ -9,9 +9,8 @@ ghost use Rattle.listings.specs.Listings.{answers_to};
 ghost use Rattle.listings.specs.Inner.Passes.{seen_of, Comes, Recorded, Puts, head_in};
 
 use disc::moves::copy;
-use identifiers::{
-    FileIdentifierDescriptor, IdentifierRead, directory_bit, marks_deleted, marks_parent, name_at,
-};
+use disc::refusals::Refusal;
+use identifiers::{FileIdentifierDescriptor, directory_bit, marks_deleted, marks_parent, name_at};
 use names::dstrings::put_name;
 use names::matching::{Fold, is_named};
 use records::bytes::byte_at;
@@ -20,7 +19,11 @@ use records::bytes::byte_at;
 const HEAD: usize = 21;
 
 // Reads the entry at `at` in a directory's bytes, for the passes that check.
-pub(crate) fn entry_at(check: bool, raw: &[u8], at: usize) -> IdentifierRead
+pub(crate) fn entry_at(
+    check: bool,
+    raw: &[u8],
+    at: usize,
+) -> Result<FileIdentifierDescriptor, Refusal>
     requires { at + 38 ≤ length raw.now }
     ensures { Comes check raw.now at result }
 {
@@ -92,6 +95,7 @@ pub fn look(s: &[u8]) -> EntrySeen
 }
 
 // The record of the entry at the front of s without its name, of n bytes. The ICB goes over as it is recorded. A show puts a level into it.
+// The length's two bytes are made by hand, since to_le_bytes of a usize gives eight (and name_length_in_one_byte.edit quotes the line).
 pub fn record_head(directory: u8, s: &[u8], n: usize) -> [u8; 21]
     ensures { result ≡ head_in directory s.now n }
 {

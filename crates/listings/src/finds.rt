@@ -90,15 +90,16 @@ pub fn find(check: bool, matching: Matching, raw: &[u8], component: &[u8]) -> Na
 {
     let mut found = no_entry(0);
     let mut at: usize = 0;
+    // No `for`: each entry says itself where the next one starts.
     while at + LEAST_SIZE <= raw.len() {
-        let r = entry_at(check, raw, at);
-        if r.answer != DONE {
-            return no_entry(r.answer);
+        match entry_at(check, raw, at) {
+            Err(why) => return no_entry(why.number()),
+            Ok(f) => {
+                let s = &raw[at..];
+                at += f.total_size;
+                found = noted(matching, found, s, f, component);
+            }
         }
-        let f = r.descriptor;
-        let s = &raw[at..];
-        at += f.total_size;
-        found = noted(matching, found, s, f, component);
     }
     found
 }

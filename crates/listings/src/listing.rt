@@ -14,35 +14,19 @@ use disc::refusals::Refusal;
 use disc::replies::{Reply, refusal};
 use identifiers::LEAST_SIZE;
 
-// How many bytes the listing takes; 0 if the directory is refused.
-#[derive(Clone, Copy)]
-pub struct ListingSize {
-    pub answer: u64,
-    pub size: usize,
-}
-
-// The size of the listing of a directory's bytes. Every entry is parsed.
-pub fn measure(check: bool, raw: &[u8]) -> ListingSize
+// How many bytes the listing of a directory's bytes takes. Every entry is parsed.
+pub fn measure(check: bool, raw: &[u8]) -> Result<usize, Refusal>
     ensures { result ≡ size_of_listing (entries check raw.now) }
 {
     let mut n: usize = 0;
     let mut at: usize = 0;
+    // No `for`: each entry says itself where the next one starts.
     while at + LEAST_SIZE <= raw.len() {
-        let r = entry_at(check, raw, at);
-        if r.answer != DONE {
-            return ListingSize {
-                answer: r.answer,
-                size: 0,
-            };
-        }
-        let f = r.descriptor;
+        let f = entry_at(check, raw, at)?;
         n += record_size(f);
         at += f.total_size;
     }
-    ListingSize {
-        answer: DONE,
-        size: n,
-    }
+    Ok(n)
 }
 
 // Writes the records of the entries over out, one after another. The entries aren't checked again, so only the room
@@ -52,6 +36,7 @@ fn put_entries(raw: &[u8], out: &mut [u8])
 {
     let mut n: usize = 0;
     let mut at: usize = 0;
+    // No `for`: each entry says itself where the next one starts.
     while at + LEAST_SIZE <= raw.len() {
         let p = put_entry(&raw[at..], &mut out[n..]);
         n += p.wrote;
@@ -63,18 +48,18 @@ fn put_entries(raw: &[u8], out: &mut [u8])
 pub fn list(check: bool, raw: &[u8], out: &mut [u8]) -> Reply
     ensures { Replied NoRoom (told (listing check raw.now)) out.old out.new result }
 {
-    let m = measure(check, raw);
-    if m.answer != DONE {
-        return refusal(m.answer, 0);
-    }
-    let size = m.size;
-    if out.len() < size {
-        return refusal(Refusal::NoRoom.number(), 0);
-    }
-    put_entries(raw, &mut out[0..size]);
-    Reply {
-        answer: DONE,
-        count: 0,
-        length: size as u64,
+    match measure(check, raw) {
+        Err(why) => refusal(why.number(), 0),
+        Ok(size) => {
+            if out.len() < size {
+                return refusal(Refusal::NoRoom.number(), 0);
+            }
+            put_entries(raw, &mut out[0..size]);
+            Reply {
+                answer: DONE,
+                count: 0,
+                length: size as u64,
+            }
+        }
     }
 }

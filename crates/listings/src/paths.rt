@@ -6,26 +6,14 @@ ghost use Rattle.listings.specs.Paths.{front, slashes};
 pub fn component_from(path: &[u8], at: usize) -> usize
     ensures { result ≡ at + slashes (drop at path.now) }
 {
-    let mut i = at;
-    while i < path.len() {
-        if path[i] != 0x2f {
-            return i;
-        }
-        i += 1;
-    }
-    i
+    let rest = path.get(at..).unwrap_or(&[]);
+    at + rest.iter().position(|b| *b != 0x2f).unwrap_or(rest.len())
 }
 
 // Where the component that starts at `at` ends.
 pub fn component_end(path: &[u8], at: usize) -> usize
     ensures { result ≡ at + length (front (drop at path.now)) }
 {
-    let mut i = at;
-    while i < path.len() {
-        if path[i] == 0x2f {
-            return i;
-        }
-        i += 1;
-    }
-    i
+    let rest = path.get(at..).unwrap_or(&[]);
+    at + rest.iter().position(|b| *b == 0x2f).unwrap_or(rest.len())
 }

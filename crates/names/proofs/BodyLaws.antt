@@ -1,12 +1,13 @@
 -- The text of a d-string's body, unit by unit, as the loops that measure and write it ask. Assumes nothing.
-use mathlib.Core.Path.{◌≡◌, refl, ap, ◌∙◌}
+use mathlib.Core.Path.{◌≡◌, refl, sym, ap, ◌∙◌}
 use mathlib.Core.Bool.{true, false}
 use mathlib.Core.List.{List, [], ◌∷◌, ◌++◌}
 use Prim.Native.Nat.{ℕ, zero, suc, ◌+◌, ◌-◌, ◌*◌, ◌^◌, ◌<◌, ◌≤◌, zero-le}
 use native.Mathlib.Numerals.{add-one, add-two}
 use native.Mathlib.Omega.{arith}
-use lib.ListN.{length, drop, length-append, length-drop}
-use lib.Seq.{drop-cons, get_or-drop, sets}
+use native.Mathlib.Nat.{add-zero}
+use lib.ListN.{length, get_or, drop, length-append, length-drop, get_or-append}
+use lib.Seq.{drop-cons, drop-drop, drop-append_seam, get_or-drop, sets}
 use lib.Dec.{eqb, ltb, lit≤}
 use mir.Syntax.{w64}
 use mir.Val.{Fits}
@@ -71,6 +72,66 @@ module _ {step i : ℕ} {s : List ℕ} (p : At step s i) where
   pub text-end : length s - i < step → text_of step (drop i s) ≡ []
   unfolding text_of until_zero drop_surrogates utf8
   text-end h = rw (units-none step (drop i s) p.body.two (rw length-drop h))
+
+-- ---- the chunks of `step` bytes, walked in turn: `left` is what is left of s, and `size` the chunks' size
+
+pub record Left (step : ℕ) (s : List ℕ) (size : ℕ) (left : List ℕ) : Type 0 where
+  pub by : size ≡ step
+  pub rest : left ≡ drop (length s - length left) s
+
+unit-same : (step : ℕ) (x s : List ℕ) (p : ℕ) → 1 ≤ step → step ≤ 2 → ((j : ℕ) → j < step → get_or x j 0 ≡ get_or s (p + j) 0) → unit_at x 0 step ≡ unit_at s p step
+unfolding unit_at
+unit-same zero x s p a b h = absurd (omega arith)
+unit-same (suc zero) x s p a b h = h 0 (omega arith) ∙ rw add-zero
+unit-same (suc (suc zero)) x s p a b h =
+    let h0 : get_or x 0 0 ≡ get_or s p 0 = h 0 (omega arith) ∙ rw add-zero in
+    let h1 : get_or x 1 0 ≡ get_or s (p + 1) 0 = h 1 (omega arith) in
+    rw (h0, h1)
+unit-same (suc (suc (suc n))) x s p a b h = absurd (omega arith)
+
+-- The next chunk is x, and w is what is left after it.
+pub record Chunk (size : ℕ) (left x w : List ℕ) : Type 0 where
+  pub parts : left ≡ x ++ w
+  pub long : length x ≡ size
+
+pub chunk : {size : ℕ} {left x w : List ℕ} → (left ≡ x ++ w) × (length x ≡ size) → Chunk size left x w
+chunk t = record { parts = t.0; long = t.1 }
+
+-- Where what is left begins.
+abbrev pub place : List ℕ → List ℕ → ℕ
+place s left = length s - length left
+
+module _ {step size : ℕ} {s left : List ℕ} (k : Left step s size left) where
+  left-long : length left ≡ length s - place s left
+  left-long = ap length k.rest ∙ length-drop (place s left) s
+
+  pub left-end : length left < size → length s - place s left < step
+  left-end h = omega (arith, left-long, k.by)
+
+  module _ {x w : List ℕ} (t : Chunk size left x w) where
+    left-parts : length left ≡ step + length w
+    left-parts = omega (arith, simp length-append at (ap length t.parts), t.long, k.by)
+
+    pub left-more : step ≤ length s - place s left
+    left-more = omega (arith, left-parts, left-long)
+
+    pub left-place-next : place s left + step ≡ place s w
+    left-place-next = omega (arith, left-parts, left-long)
+
+    left-drop : drop (place s left + step) s ≡ w
+    left-drop =
+        sym (drop-drop step (place s left) s) ∙ ap (drop step) (sym k.rest ∙ t.parts)
+        ∙ ap (λ n. drop n (x ++ w)) (sym (t.long ∙ k.by)) ∙ drop-append_seam x w
+
+    pub left-next : {size' : ℕ} → size' ≡ size → Left step s size' w
+    left-next g = record { by = g ∙ k.by; rest = sym (rw left-place-next at left-drop) }
+
+    left-byte : (j : ℕ) → j < step → get_or x j 0 ≡ get_or s (place s left + j) 0
+    left-byte j h =
+        sym (get_or-append x w 0 j (omega (arith, k.by, t.long))) ∙ ap (λ z. get_or z j 0) (sym t.parts ∙ k.rest) ∙ get_or-drop (place s left) s j 0
+
+    pub left-unit : 1 ≤ step → step ≤ 2 → {u : ℕ} → u ≡ unit_at x 0 step → u ≡ unit_at s (place s left) step
+    left-unit a b e = e ∙ unit-same step x s (place s left) a b left-byte
 
 -- ---- how long a text is
 

@@ -3,15 +3,13 @@ use mathlib.Core.Path.{◌≡◌, refl, sym, ap, ◌∙◌}
 use mathlib.Core.Bool.{Bool, true, false}
 use mathlib.Core.List.{List, [], ◌∷◌, ◌++◌}
 use Prim.Native.Nat.compare
-use Prim.Native.Nat.{ℕ, zero, suc, ◌+◌, ◌-◌, ◌*◌, ◌^◌, ◌/◌, ◌%◌, ◌<◌, ◌≤◌, zero-le, min}
+use Prim.Native.Nat.{ℕ, zero, suc, ◌+◌, ◌-◌, ◌*◌, ◌/◌, ◌%◌, ◌<◌, ◌≤◌, zero-le, min}
 use native.Mathlib.Numerals.{add-one}
 use native.Mathlib.Omega.{arith}
 use lib.ListN.{length, get_or, drop, drop_of_length-le}
 use lib.Seq.{drop-cons}
 use lib.Dec.{eqb, leb}
 use borrow.Author.Tests.{eq-eqb, ne_eqb, lt-ltb, le-ltb, le-leb, lt-leb}
-use mir.Syntax.{w64}
-use mir.Val.{Fits}
 use Rattle.disc.proofs.PickLaws.{not-both}
 use Rattle.disc.specs.Choice.{pick}
 use Rattle.disc.specs.Ask.{Outcome}
@@ -21,7 +19,7 @@ use Rattle.names.specs.declared.matching.Fold.{Fold}
 use Rattle.names.specs.declared.matching.Fold.TheVariants.{Lower, AsIs}
 use Rattle.names.specs.declared.matching.NamePlace.{NamePlace}
 use Rattle.names.specs.Names.{surrogate, encode, name_of, lower, fold_of, same_name, matched, is_named}
-use Rattle.names.specs.Inner.Units.{Formed, Body, At, text_of, unit_at, unit_bytes}
+use Rattle.names.specs.Inner.Units.{Formed, text_of, unit_at, unit_bytes}
 use Rattle.names.specs.Inner.Matching.{Matched, Plain, Comparing}
 use Rattle.names.proofs.UnitLaws.{ascii-bytes}
 use Rattle.names.proofs.BodyLaws.{at_next, text-next, text-zero, text-end}
@@ -152,12 +150,6 @@ one_more (suc zero) n h l = omega arith
 one_more (suc (suc zero)) n h l = omega arith
 one_more (suc (suc (suc step))) n h l = absurd (omega arith)
 
-none_yet : (step : ℕ) → 0 * step + 1 ≡ 1
-none_yet step = omega arith
-
-pub front-start : {fold : ℕ → ℕ} (step : ℕ) {s t : List ℕ} → Body s step → Comparing fold step s t 1 0 (0 * step + 1) 0
-front-start step b = rw (none_yet step) (record { at = record { body = b; within = b.some_byte }; rest = refl })
-
 module _ {fold : ℕ → ℕ} {step n k : ℕ} {s t : List ℕ} (c : Comparing fold step s t 1 0 (n * step + 1) n) (h : n < k) (l : k ≡ min ((length s - 1) / step) (length t)) where
   pub front_fits : n * step + 1 + step ≤ length s
   front_fits =
@@ -170,17 +162,6 @@ module _ {fold : ℕ → ℕ} {step n k : ℕ} {s t : List ℕ} (c : Comparing f
   -- Here r is what `is_plain` returned.
   pub front-next : {u : ℕ} → u ≡ unit_at s (n * step + 1) step → {r : Bool} → (r ≡ true → Plain fold u (get_or t n 0)) → r ≡ true → Comparing fold step s t 1 0 ((n + 1) * step + 1) (n + 1)
   front-next e p y = rw (← one_more step n c.at.body.one c.at.body.two) (plain-next c (omega (arith, front_fits)) e front-there (p y))
-
--- Where the rest starts can be counted.
-module _ (step n : ℕ) {s : List ℕ} (p : At step s (n * step + 1)) (g : length s * 1 < 2 ^ 63) where
-  pub rest-times : Fits w64 (n * step)
-  rest-times = omega (arith, p.within)
-
-  pub rest-starts : Fits w64 (n * step + 1)
-  rest-starts = omega (arith, p.within)
-
-pub rest-start : {fold : ℕ → ℕ} (step n : ℕ) {s t : List ℕ} → At step s (n * step + 1) → Comparing fold step s t (n * step + 1) n (n * step + 1) n
-rest-start step n p = record { at = p; rest = refl }
 
 -- ---- a d-string and a component
 

@@ -1,4 +1,5 @@
 -- A whole d-string and a whole field, by the tests of the code. Assumes nothing.
+use Rattle.std.specs.Prelude.{Option, Some, None, Result, Ok, Err}
 use mathlib.Core.Path.{◌≡◌, refl}
 use mathlib.Core.Bool.{Bool, true, false}
 use mathlib.Core.List.{List, [], ◌∷◌}
@@ -14,15 +15,12 @@ use Rattle.disc.specs.declared.refusals.Refusal.TheVariants.{Malformed, NoRoom}
 use Rattle.disc.specs.declared.replies.Reply.{Reply}
 use Rattle.names.specs.declared.dstrings.Form.{Form}
 use Rattle.names.specs.declared.dstrings.Form.TheVariants.{Empty, Units, Bad}
-use Rattle.names.specs.declared.dstrings.NameSize.{NameSize}
-use Rattle.names.specs.declared.dstrings.NameSize.TheVariants.{Size, Refused}
-use Rattle.names.specs.declared.fields.FieldLength.{FieldLength}
-use Rattle.names.specs.declared.fields.FieldLength.TheVariants.{Length, TooLong}
 use Rattle.names.specs.Names.{Wrote, nameless, name_of, name_of_field, written, size_of}
 use Rattle.names.specs.Inner.Units.{Body, Formed, FieldMeasured, units, text_of, name_as, front_name}
 use Rattle.disc.proofs.ReplyLaws.{reply-refused}
 use Rattle.names.proofs.Promises.{bytes-kept}
 use Rattle.disc.specs.Parts.{Bytes}
+use Rattle.disc.specs.declared.refusals.Refusal.{Refusal}
 
 -- ---- which form a d-string has
 
@@ -71,13 +69,13 @@ module _ {s : List ℕ} {f : Form} (p : Formed s f) where
   pub has_body : {step : ℕ} → f ≡ Units step → Body s step
   has_body e = rw e at p.body
 
-  pub size-empty : f ≡ Empty → Size 0 ≡ size_of (name_of s)
+  pub size-empty : f ≡ Empty → Ok 0 ≡ size_of (name_of s)
   size-empty e = rw (found e)
 
-  pub size-units : (step : ℕ) {n : ℕ} → f ≡ Units step → n ≡ length (text_of step (drop 1 s)) → Size n ≡ size_of (name_of s)
+  pub size-units : (step : ℕ) {n : ℕ} → f ≡ Units step → n ≡ length (text_of step (drop 1 s)) → Ok n ≡ size_of (name_of s)
   size-units step e h = rw (found e, h)
 
-  pub size-bad : f ≡ Bad → Refused Malformed ≡ size_of (name_of s)
+  pub size-bad : f ≡ Bad → Err Malformed ≡ size_of (name_of s)
   size-bad e = rw (found e)
 
   module _ {d : List ℕ} where
@@ -93,39 +91,39 @@ module _ {s : List ℕ} {f : Form} (p : Formed s f) where
 -- ---- a field
 
 module _ {f : List ℕ} where
-  pub field-empty : length f ≡ 0 → FieldMeasured f (Length 0)
+  pub field-empty : length f ≡ 0 → FieldMeasured f (Some 0)
   unfolding name_of_field name_of
   field-empty z = record { name = simp (eq-eqb _ _ z); within = zero-le }
 
   module _ (z : length f ≡ 0 → ⊥) (n : ℕ) (e : n ≡ get_or f (length f - 1) 0) where
-    pub field-bad : length f - 1 < n → FieldMeasured f TooLong
+    pub field-bad : length f - 1 < n → FieldMeasured f None
     unfolding name_of_field
     field-bad h = record { name = rw (← e) (simp (ne_eqb _ _ z, lt-ltb _ _ h)); within = tt }
 
-    pub field-front : n ≤ length f - 1 → FieldMeasured f (Length n)
+    pub field-front : n ≤ length f - 1 → FieldMeasured f (Some n)
     unfolding name_of_field
     field-front h = record { name = rw (← e) (simp (ne_eqb _ _ z, le-ltb _ _ h)); within = omega arith }
 
 -- Here r is what `measured` found of the field f.
-module _ {f : List ℕ} {r : FieldLength} (m : FieldMeasured f r) where
-  front : {q : FieldLength} → r ≡ q → name_of_field f ≡ front_name q f
+module _ {f : List ℕ} {r : Option ℕ} (m : FieldMeasured f r) where
+  front : {q : Option ℕ} → r ≡ q → name_of_field f ≡ front_name q f
   front e = rw (← e) m.name
 
-  pub front-within : {n : ℕ} → r ≡ Length n → n ≤ length f
+  pub front-within : {n : ℕ} → r ≡ Some n → n ≤ length f
   front-within e = rw e at m.within
 
-  pub front_long : {n : ℕ} → r ≡ Length n → n ≡ length (take n f)
+  pub front_long : {n : ℕ} → r ≡ Some n → n ≡ length (take n f)
   front_long e = let w = front-within e in simp length-take (omega arith)
 
-  pub front-size : (n : ℕ) {v : NameSize} → r ≡ Length n → v ≡ size_of (name_of (take n f)) → v ≡ size_of (name_of_field f)
+  pub front-size : (n : ℕ) {v : Result ℕ Refusal} → r ≡ Some n → v ≡ size_of (name_of (take n f)) → v ≡ size_of (name_of_field f)
   front-size n e s = rw (front e) s
 
-  pub front-none : r ≡ TooLong → Refused Malformed ≡ size_of (name_of_field f)
+  pub front-none : r ≡ None → Err Malformed ≡ size_of (name_of_field f)
   front-none e = rw (front e)
 
   module _ {d : List ℕ} {p : Reply} where
-    pub front-wrote : (n : ℕ) {d' : List ℕ} → r ≡ Length n → Replied NoRoom (told (name_of (take n f))) d d' p → Replied NoRoom (told (name_of_field f)) d d' p
+    pub front-wrote : (n : ℕ) {d' : List ℕ} → r ≡ Some n → Replied NoRoom (told (name_of (take n f))) d d' p → Replied NoRoom (told (name_of_field f)) d d' p
     front-wrote n e w = rw (front e) w
 
-    pub front-left : r ≡ TooLong → p ≡ record { answer = 2; count = 0; length = 0 } → Replied NoRoom (told (name_of_field f)) d d p
+    pub front-left : r ≡ None → p ≡ record { answer = 2; count = 0; length = 0 } → Replied NoRoom (told (name_of_field f)) d d p
     front-left e q = rw (front e) (reply-refused Malformed 0 0 refl q)

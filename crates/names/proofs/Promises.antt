@@ -1,5 +1,6 @@
 -- What is proved of names: how long one is, which are empty, what matching is, that a contract by `Wrote` leaves one result, and cases 9 to 13 of the
 -- worked table. Assumes nothing.
+use Rattle.std.specs.Prelude.{Result, Ok}
 use mathlib.Core.Path.{◌≡◌, refl, sym, ap, ◌∙◌}
 use mathlib.Core.Bool.{Bool, true, false}
 use mathlib.Core.List.{List, [], ◌∷◌, map}
@@ -15,8 +16,6 @@ use Rattle.disc.specs.Ask.{Outcome}
 use Rattle.disc.specs.Ask.Outcome.{answered, refused}
 use Rattle.disc.specs.declared.refusals.Refusal.{Refusal}
 use Rattle.disc.specs.declared.refusals.Refusal.TheVariants.{Malformed}
-use Rattle.names.specs.declared.dstrings.NameSize.{NameSize}
-use Rattle.names.specs.declared.dstrings.NameSize.TheVariants.{Size}
 use Rattle.names.specs.Names.{Wrote, pairs, until_zero, surrogate, drop_surrogates, encode, utf8, nameless, name_of, name_of_field, written, size_of, lower, as_is, same_name, is_named, name_answer, size_answer}
 use Rattle.names.proofs.BodyLaws.{short-bytes, short-pairs}
 use Rattle.disc.specs.Parts.{Bytes}
@@ -56,10 +55,10 @@ pub at-most-508 : (s : List ℕ) → Bytes s → length s ≤ 255 → length (wr
 at-most-508 s b h = omega (arith, name-short s b)
 
 -- The same of what `name_size` answers, r.
-pub name-size-508 : (s : List ℕ) {r : NameSize} {n : ℕ} → Bytes s → length s ≤ 255 → r ≡ size_of (name_of s) → r ≡ Size n → n ≤ 508
+pub name-size-508 : (s : List ℕ) {r : Result ℕ Refusal} {n : ℕ} → Bytes s → length s ≤ 255 → r ≡ size_of (name_of s) → r ≡ Ok n → n ≤ 508
 name-size-508 s b h e k = sized (name_of s) (sym e ∙ k) (at-most-508 s b h)
   where
-    sized : (o : Outcome (List ℕ)) {n m : ℕ} → size_of o ≡ Size n → length (written o) ≤ m → n ≤ m
+    sized : (o : Outcome (List ℕ)) {n m : ℕ} → size_of o ≡ Ok n → length (written o) ≤ m → n ≤ m
     sized (refused why) e h = absurd (let z : ◌≡◌ {A = ℕ} 0 1 = cc in omega arith)
     sized (answered name) {n} e h = let z : n ≡ length name = cc in omega arith
 

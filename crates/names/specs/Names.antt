@@ -1,6 +1,6 @@
 -- What a recorded name says, and when two names match: RULES 4.
 -- D-strings are those of OSTA UDF 2.1.3, and d-string fields those of ECMA-167 1/7.2.12.
-use Rattle.std.specs.Prelude.{ℕ, ◌+◌, ◌-◌, ◌*◌, ◌/◌, ◌%◌, ◌≡◌, Bool, true, false, ◌||◌, List, [], ◌∷◌, ◌++◌, length, get_or, take, ltb, eqb}
+use Rattle.std.specs.Prelude.{ℕ, ◌+◌, ◌-◌, ◌*◌, ◌/◌, ◌%◌, ◌≡◌, Bool, true, false, ◌||◌, List, [], ◌∷◌, ◌++◌, length, get_or, take, ltb, eqb, Result, Ok, Err}
 use Rattle.disc.specs.Choice.{pick}
 use Rattle.disc.specs.Moves.{over}
 use Rattle.disc.specs.Ask.{Outcome}
@@ -9,10 +9,9 @@ use Rattle.disc.specs.Images.{bytes_of}
 use Rattle.disc.specs.Refusals.{number}
 use Rattle.disc.specs.Replies.{Answer, answer_in}
 use Rattle.disc.specs.declared.refusals.Refusal.TheVariants.{Malformed}
-use Rattle.names.specs.declared.dstrings.NameSize.{NameSize}
-use Rattle.names.specs.declared.dstrings.NameSize.TheVariants.{Size, Refused}
 use Rattle.names.specs.declared.matching.Fold.{Fold}
 use Rattle.names.specs.declared.matching.Fold.TheVariants.{Lower, AsIs}
+use Rattle.disc.specs.declared.refusals.Refusal.{Refusal}
 
 -- ---- code points
 
@@ -77,17 +76,17 @@ abbrev pub written : Outcome (List ℕ) → List ℕ
 written name = bytes_of name
 
 -- The size of a name as the code reports it.
-abbrev pub size_of : Outcome (List ℕ) → NameSize
-size_of (refused why) = Refused why
-size_of (answered name) = Size (length name)
+abbrev pub size_of : Outcome (List ℕ) → Result ℕ Refusal
+size_of (refused why) = Err why
+size_of (answered name) = Ok (length name)
 
 -- The answer number with the name, or with its size: RULES 12.3.
 abbrev pub name_answer : Outcome (List ℕ) → Answer (List ℕ)
 name_answer o = answer_in [] o
 
-abbrev pub size_answer : NameSize → Answer ℕ
-size_answer (Size n) = record { number = 0; value = n }
-size_answer (Refused why) = record { number = number why; value = 0 }
+abbrev pub size_answer : Result ℕ Refusal → Answer ℕ
+size_answer (Ok n) = record { number = 0; value = n }
+size_answer (Err why) = record { number = number why; value = 0 }
 
 -- A text was written over the front of what was lent, and its length was returned.
 pub record Wrote (text before after : List ℕ) (r : ℕ) : Type 0 where

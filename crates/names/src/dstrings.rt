@@ -11,13 +11,6 @@ use disc::answers::{DONE, NO_ROOM};
 use disc::refusals::Refusal;
 use disc::replies::{Reply, refusal};
 
-// How many bytes of UTF-8 a recorded name has.
-#[derive(Clone, Copy)]
-pub enum NameSize {
-    Size(usize),
-    Refused(Refusal),
-}
-
 // The form of a d-string: empty, in units of this many bytes, or bad.
 #[derive(Clone, Copy)]
 pub(crate) enum Form {
@@ -63,14 +56,12 @@ fn text_size(s: &[u8], step: usize) -> usize
     ensures { result ≡ length (text_of step (drop 1 s.now)) }
 {
     let mut n: usize = 0;
-    let mut i: usize = 1;
-    while step <= s.len() - i {
-        let u = unit(s, i, step);
+    for bytes in s[1..].chunks_exact(step) {
+        let u = unit(bytes, 0, step);
         if u == 0 {
             return n;
         }
         n += unit_size(u);
-        i += step;
     }
     n
 }
@@ -81,26 +72,24 @@ fn put_text(s: &[u8], step: usize, out: &mut [u8]) -> usize
     ensures { Wrote (text_of step (drop 1 s.now)) out.old out.new result }
 {
     let mut n: usize = 0;
-    let mut i: usize = 1;
-    while step <= s.len() - i {
-        let code = unit(s, i, step);
+    for bytes in s[1..].chunks_exact(step) {
+        let code = unit(bytes, 0, step);
         if code == 0 {
             return n;
         }
         n = put(out, n, code);
-        i += step;
     }
     n
 }
 
 // How many bytes of UTF-8 the name of the d-string s has.
-pub fn name_size(s: &[u8]) -> NameSize
+pub fn name_size(s: &[u8]) -> Result<usize, Refusal>
     ensures { result ≡ size_of (name_of s.now) }
 {
     match form_of(s) {
-        Form::Empty => NameSize::Size(0),
-        Form::Units(step) => NameSize::Size(text_size(s, step)),
-        Form::Bad => NameSize::Refused(Refusal::Malformed),
+        Form::Empty => Ok(0),
+        Form::Units(step) => Ok(text_size(s, step)),
+        Form::Bad => Err(Refusal::Malformed),
     }
 }
 
@@ -123,8 +112,8 @@ pub fn write_name(s: &[u8], out: &mut [u8]) -> Reply
     ensures { Replied NoRoom (told (name_of s.now)) out.old out.new result }
 {
     match name_size(s) {
-        NameSize::Refused(why) => refusal(why.number(), 0),
-        NameSize::Size(n) => {
+        Err(why) => refusal(why.number(), 0),
+        Ok(n) => {
             if out.len() < n {
                 return refusal(NO_ROOM, 0);
             }

@@ -7,40 +7,32 @@ ghost use Rattle.disc.specs.declared.refusals.Refusal.TheVariants.{NoRoom};
 ghost use Rattle.names.specs.Names.{name_of_field, size_of};
 ghost use Rattle.names.specs.Inner.Units.{FieldMeasured};
 
-use crate::dstrings::{NameSize, name_size, write_name};
-use crate::units::wide;
+use crate::dstrings::{name_size, write_name};
 use disc::answers::MALFORMED;
 use disc::refusals::Refusal;
 use disc::replies::{Reply, refusal};
 
-// How long the d-string of a field is.
-#[derive(Clone, Copy)]
-enum FieldLength {
-    Length(usize),
-    TooLong,
-}
-
-fn measured(f: &[u8]) -> FieldLength
+fn measured(f: &[u8]) -> Option<usize>
     ensures { FieldMeasured f.now result }
 {
     if f.len() == 0 {
-        return FieldLength::Length(0);
+        return Some(0);
     }
     let last = f.len() - 1;
-    let n = wide(f[last]) as usize;
+    let n = f[last] as usize;
     if last < n {
-        return FieldLength::TooLong;
+        return None;
     }
-    FieldLength::Length(n)
+    Some(n)
 }
 
 // How many bytes of UTF-8 the name in the field f has.
-pub fn field_size(f: &[u8]) -> NameSize
+pub fn field_size(f: &[u8]) -> Result<usize, Refusal>
     ensures { result ≡ size_of (name_of_field f.now) }
 {
     match measured(f) {
-        FieldLength::Length(n) => name_size(&f[..n]),
-        FieldLength::TooLong => NameSize::Refused(Refusal::Malformed),
+        Some(n) => name_size(&f[..n]),
+        None => Err(Refusal::Malformed),
     }
 }
 
@@ -49,7 +41,7 @@ pub fn write_field(f: &[u8], out: &mut [u8]) -> Reply
     ensures { Replied NoRoom (told (name_of_field f.now)) out.old out.new result }
 {
     match measured(f) {
-        FieldLength::Length(n) => write_name(&f[..n], out),
-        FieldLength::TooLong => refusal(MALFORMED, 0),
+        Some(n) => write_name(&f[..n], out),
+        None => refusal(MALFORMED, 0),
     }
 }

@@ -7,7 +7,6 @@ ghost use Rattle.names.specs.Inner.Matching.{Matched, Plain, Comparing};
 
 use crate::dstrings::{Form, form_of};
 use crate::units::{surrogate, unit};
-use disc::moves::least;
 
 // Whether all that was compared is the same, and how far into the component that is.
 #[derive(Clone, Copy)]
@@ -117,16 +116,14 @@ fn front(fold: Fold, s: &[u8], step: usize, t: &[u8]) -> usize
     requires { Body s.now step }
     ensures { Comparing (fold_of fold) step s.now t.now 1 0 (result * step + 1) result }
 {
-    let n = least((s.len() - 1) / step, t.len());
-    let mut at: usize = 0;
-    while at < n {
+    let n = ((s.len() - 1) / step).min(t.len());
+    for at in 0..n {
         let u = unit(s, at * step + 1, step);
         if !is_plain(fold, u, t[at]) {
             return at;
         }
-        at += 1;
     }
-    at
+    n
 }
 
 // Whether the UTF-8 of s after its first n units matches the component t after its first n bytes. Ends at the first
@@ -136,9 +133,8 @@ fn is_rest(fold: Fold, s: &[u8], step: usize, n: usize, t: &[u8]) -> bool
     ensures { result ≡ same_name (fold_of fold) (text_of step (drop (n * step + 1) s.now)) (drop n t.now) }
 {
     let mut at = n;
-    let mut i = n * step + 1;
-    while step <= s.len() - i {
-        let u = unit(s, i, step);
+    for bytes in s[n * step + 1..].chunks_exact(step) {
+        let u = unit(bytes, 0, step);
         if u == 0 {
             return t.len() <= at;
         }
@@ -147,7 +143,6 @@ fn is_rest(fold: Fold, s: &[u8], step: usize, n: usize, t: &[u8]) -> bool
             return false;
         }
         at = p.at;
-        i += step;
     }
     t.len() <= at
 }

@@ -3,21 +3,15 @@ ghost use Rattle.std.specs.Prelude.{◌≡◌, ◌+◌, ◌≤◌, ◌<◌, leng
 ghost use Rattle.names.specs.Names.{surrogate};
 ghost use Rattle.names.specs.Inner.Units.{WroteAt, unit_at, unit_bytes};
 
-pub(crate) fn wide(b: u8) -> u16
-    ensures { (result ≡ b) × (result < 256) }
-{
-    b as u16
-}
-
 // The unit at `at`: a byte, or two bytes with the higher first.
 pub(crate) fn unit(s: &[u8], at: usize, step: usize) -> u16
     requires { (at + step ≤ length s.now) × (1 ≤ step) }
     ensures { result ≡ unit_at s.now at step }
 {
     if step == 2 {
-        return wide(s[at]) * 256 + wide(s[at + 1]);
+        return u16::from_be_bytes([s[at], s[at + 1]]);
     }
-    wide(s[at])
+    s[at] as u16
 }
 
 pub(crate) fn surrogate(u: u16) -> bool

@@ -1,6 +1,6 @@
 -- Laws of the probe, as the code's loop asks for them. Assumes nothing.
 use mathlib.Core.Path.{◌≡◌, refl, sym, ◌∙◌}
-use mathlib.Core.Bool.{Bool, true, false}
+use mathlib.Core.Bool.{Bool, false}
 use mathlib.Core.List.{List}
 use Prim.Native.Nat.{ℕ, suc, ◌+◌, ◌-◌, ◌*◌, ◌/◌, ◌<◌, ◌≤◌}
 use native.Mathlib.Omega.{arith}
@@ -15,77 +15,68 @@ use Rattle.descriptors.specs.declared.recognition.Structure.TheVariants.{Beginni
 use Rattle.probes.specs.Probes.{probed_by, probing, yes, probed}
 use Rattle.probes.specs.Inner.Steps.{step_of}
 use Rattle.probes.specs.declared.Seen.{Seen}
+use Rattle.probes.specs.declared.Seen.TheVariants.{Over, On}
 
 -- ---- one sector
 
--- the returns of `step`: what a case of `step_of` says
-pub step-told : {s t : Structure} (b n : Bool) {r : Seen} → s ≡ t → r ≡ step_of t b n → r ≡ step_of s b n
-step-told b n e q = rw e q
+-- what is left of the probe, by what a sector told
+abbrev told : Seen → (Bool → Bool → Ask Bool) → Ask Bool
+told (Over a) rest = done a
+told (On b n) rest = rest b n
 
-step-on : (s : Structure) (b n : Bool) (rest : Bool → Bool → Ask Bool) → (step_of s b n).going ≡ true
-    → probed_by s b n rest ≡ rest (step_of s b n).began (step_of s b n).named
-step-on Beginning b n rest e = refl
-step-on Nsr b n rest e = refl
-step-on Terminating b n rest e = let z : false ≡ true = e in cc
-step-on Other b n rest e = refl
-step-on Unknown b n rest e = let z : false ≡ true = e in cc
-
-step-over : (s : Structure) (b n : Bool) (rest : Bool → Bool → Ask Bool) → (step_of s b n).going ≡ false → probed_by s b n rest ≡ done (step_of s b n).answer
-step-over Beginning b n rest e = let z : true ≡ false = e in cc
-step-over Nsr b n rest e = let z : true ≡ false = e in cc
-step-over Terminating b n rest e = refl
-step-over Other b n rest e = let z : true ≡ false = e in cc
-step-over Unknown b n rest e = refl
+step-is : (s : Structure) (b n : Bool) (rest : Bool → Bool → Ask Bool) → probed_by s b n rest ≡ told (step_of s b n) rest
+step-is Beginning b n rest = refl
+step-is Nsr b n rest = refl
+step-is Terminating b n rest = refl
+step-is Other b n rest = refl
+step-is Unknown b n rest = refl
 
 yes-done : (d : Disc) (b : Bool) → yes (outcome d (done b)) ≡ b
 unfolding outcome
 yes-done d b = refl
 
--- ---- the loop has come to i of 8 sectors
+-- ---- the loop has come to sector s, of 16 to 23
 
-pub record Probing (image : List ℕ) (began named : Bool) (i : ℕ) : Type 0 where
-  pub within : i ≤ 8
-  pub rest : probed image ≡ yes (outcome (disc image) (probing (8 - i) (16 + i) began named))
+pub record Probing (image : List ℕ) (began named : Bool) (s : ℕ) : Type 0 where
+  pub rest : probed image ≡ yes (outcome (disc image) (probing (24 - s) s began named))
 
-pub probe-starts : (image : List ℕ) → Probing image false false 0
+pub probe-starts : (image : List ℕ) → Probing image false false 16
 unfolding probed
-probe-starts image = record { within = omega arith; rest = refl }
+probe-starts image = record { rest = refl }
 
-module _ {image : List ℕ} {began named : Bool} {i : ℕ} (p : Probing image began named i) (h : i < 8) where
-  one_more : 8 - i ≡ suc (8 - (i + 1))
+module _ {image : List ℕ} {began named : Bool} {s : ℕ} (p : Probing image began named s) (h : s < 24) where
+  one_more : 24 - s ≡ suc (24 - (s + 1))
   one_more = omega arith
 
   -- the sector is there
-  module _ {m : ℕ} (s : m ≡ held_from image (16 + i)) (z : m ≡ 0 → ⊥) {b : List ℕ} {x : Structure} {t : Seen} (g : b ≡ bytes_in (disc image (16 + i))) (f : x ≡ structure_of b) (e : t ≡ step_of x began named) where
-    turn-rest : probed image ≡ yes (outcome (disc image) (probed_by x began named (λ y z. probing (8 - (i + 1)) (16 + i + 1) y z)))
+  module _ {m : ℕ} (n : m ≡ held_from image s) (z : m ≡ 0 → ⊥) {b : List ℕ} {x : Structure} {t : Seen} (g : b ≡ bytes_in (disc image s)) (f : x ≡ structure_of b) (e : t ≡ step_of x began named) where
+    turn-rest : probed image ≡ yes (outcome (disc image) (probed_by x began named (λ y z. probing (24 - (s + 1)) (s + 1) y z)))
     unfolding probing outcome
     turn-rest =
-        let q = held image (16 + i) (here (length image) (16 + i) s) in
+        let q = held image s (here (length image) s n) in
         p.rest ∙ rw (one_more, f, g, q)
       where
         here : (l a : ℕ) → m ≡ l / 2048 - a → 2048 * a + 2048 ≤ l
         here l a e = omega (arith, z)
 
-    pub probe-next : t.going ≡ true → Probing image t.began t.named (i + 1)
-    probe-next y =
-        let a : 16 + i + 1 ≡ 16 + (i + 1) = omega arith in
-        record { within = omega arith; rest = turn-rest ∙ rw (step-on x began named (λ y z. probing (8 - (i + 1)) (16 + i + 1) y z) (rw e at y), a, ← e) }
+    pub probe-next : {began' named' : Bool} → t ≡ On began' named' → Probing image began' named' (s + 1)
+    probe-next y = record { rest = turn-rest ∙ rw (step-is x began named (λ y z. probing (24 - (s + 1)) (s + 1) y z), ← e, y) }
 
-    pub probe-stops : t.going ≡ false → t.answer ≡ probed image
-    probe-stops y = sym (turn-rest ∙ rw (step-over x began named (λ y z. probing (8 - (i + 1)) (16 + i + 1) y z) (rw e at y), ← e) (yes-done (disc image) t.answer))
+    pub probe-stops : {a : Bool} → t ≡ Over a → a ≡ probed image
+    probe-stops {a} y = sym (turn-rest ∙ rw (step-is x began named (λ y z. probing (24 - (s + 1)) (s + 1) y z), ← e, y) (yes-done (disc image) a))
 
   -- it isn't
-  pub probe-gone : {m : ℕ} → m ≡ held_from image (16 + i) → m ≡ 0 → false ≡ probed image
+  pub probe-gone : {m : ℕ} → m ≡ held_from image s → m ≡ 0 → false ≡ probed image
   unfolding probing outcome
-  probe-gone {m} s z = sym (p.rest ∙ rw (one_more, missing image (16 + i) (gone (length image) (16 + i) s)))
+  probe-gone {m} n z = sym (p.rest ∙ rw (one_more, missing image s (gone (length image) s n)))
     where
       gone : (l a : ℕ) → m ≡ l / 2048 - a → l < 2048 * a + 2048
       gone l a e = omega arith
 
-pub probe-ends : {image : List ℕ} {began named : Bool} {i : ℕ} → Probing image began named i → 8 ≤ i → false ≡ probed image
+pub probe-ends : {image : List ℕ} {began named : Bool} {s : ℕ} → Probing image began named s → 24 ≤ s → false ≡ probed image
 unfolding probing outcome
-probe-ends {image} {began} {named} {i} p h =
-    let z : 8 - i ≡ 0 = omega arith in
+probe-ends {image} {began} {named} {s} p h =
+    let z : 24 - s ≡ 0 = omega arith in
     sym (p.rest ∙ rw z)
 
 -- ---- the contract leaves one result

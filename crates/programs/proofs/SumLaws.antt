@@ -1,5 +1,5 @@
 -- What the loop that sums cites. Assumes nothing.
-use mathlib.Core.Path.{◌≡◌, refl, sym, ◌∙◌}
+use mathlib.Core.Path.{◌≡◌, sym, ◌∙◌}
 use mathlib.Core.List.{List}
 use Prim.Native.Nat.{ℕ, ◌+◌, ◌*◌, ◌%◌, ◌≤◌, ◌<◌, ◌^◌}
 use native.Mathlib.Omega.{arith}
@@ -13,9 +13,6 @@ pub record Summing (b : List ℕ) (s i : ℕ) : Type 0 where
   pub within : i ≤ length b
   pub small : s < 2 ^ 32
   pub rest : summed s (drop i b) ≡ summed 0 b
-
-pub sum-starts : (b : List ℕ) → Summing b 0 0
-sum-starts b = record { within = omega arith; small = omega arith; rest = refl }
 
 module _ {b : List ℕ} {s i : ℕ} (p : Summing b s i) where
   pub sum-next : {w : ℕ} → i < length b → w ≡ get_or b i 0 → Summing b ((s * 31 + w) % 4294967296) (i + 1)

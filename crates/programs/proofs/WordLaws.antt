@@ -1,10 +1,9 @@
 -- What the functions that print cite: a number by another spelling has the same digits. And a number has one number of digits. Assumes nothing.
+use Rattle.std.specs.Prelude.{Option, Some, None}
 use mathlib.Core.Path.{◌≡◌, refl, sym, subst, ◌∙◌}
 use Prim.Native.Nat.{ℕ, ◌-◌, ◌^◌, ◌≤◌, ◌<◌}
 use native.Mathlib.Nat.{pow-le-pow_right, le_of_suc-le-suc, lt_of_not-le}
 use native.Mathlib.Omega.{arith}
-use Rattle.disc.specs.declared.places.PartitionRef.{PartitionRef}
-use Rattle.disc.specs.declared.places.PartitionRef.TheVariants.{Unnamed, Named}
 use Rattle.io.specs.Digits.{IsDigitCount}
 use Rattle.programs.specs.Words.{PartitionDigits}
 
@@ -17,10 +16,10 @@ decimal-same e p = same_digits 10 1 e p
 pub hex-same : {n m k : ℕ} → n ≡ m → IsDigitCount 16 2 n k → IsDigitCount 16 2 m k
 hex-same e p = same_digits 16 2 e p
 
-pub unnamed-digits : {p : PartitionRef} → p ≡ Unnamed → PartitionDigits p 0
+pub unnamed-digits : {p : Option ℕ} → p ≡ None → PartitionDigits p 0
 unnamed-digits e = subst (λ q. PartitionDigits q 0) (sym e) refl
 
-pub named-digits : {p : PartitionRef} {n k : ℕ} → p ≡ Named n → IsDigitCount 10 1 n k → PartitionDigits p k
+pub named-digits : {p : Option ℕ} {n k : ℕ} → p ≡ Some n → IsDigitCount 10 1 n k → PartitionDigits p k
 named-digits {p} {n} {k} e h = subst (λ q. PartitionDigits q k) (sym e) h
 
 -- ---- the contracts leave one result
@@ -49,6 +48,6 @@ decimal-one least n k k' p q = fewest-one 10 least n k k' (omega arith) p q
 pub hex-one : (least n k k' : ℕ) → IsDigitCount 16 least n k → IsDigitCount 16 least n k' → k ≡ k'
 hex-one least n k k' p q = fewest-one 16 least n k k' (omega arith) p q
 
-pub partition-one : (p : PartitionRef) (k k' : ℕ) → PartitionDigits p k → PartitionDigits p k' → k ≡ k'
-partition-one Unnamed k k' e f = e ∙ sym f
-partition-one (Named n) k k' e f = decimal-one 1 n k k' e f
+pub partition-one : (p : Option ℕ) (k k' : ℕ) → PartitionDigits p k → PartitionDigits p k' → k ≡ k'
+partition-one None k k' e f = e ∙ sym f
+partition-one (Some n) k k' e f = decimal-one 1 n k k' e f

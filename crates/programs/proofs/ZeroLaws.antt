@@ -1,6 +1,6 @@
 -- What the loop that looks for a byte that isn't 0 cites. Assumes nothing.
-use mathlib.Core.Path.{◌≡◌, refl, sym, ◌∙◌}
-use mathlib.Core.Bool.{Bool, true, false}
+use mathlib.Core.Path.{◌≡◌, sym, ◌∙◌}
+use mathlib.Core.Bool.{true, false}
 use mathlib.Core.List.{List}
 use Prim.Native.Nat.{ℕ, ◌+◌, ◌≤◌, ◌<◌}
 use native.Mathlib.Omega.{arith}
@@ -15,9 +15,6 @@ pub record Zeroed (b : List ℕ) (i : ℕ) : Type 0 where
   pub within : i ≤ length b
   pub rest : all_zero (drop i b) ≡ all_zero b
 
-pub zero-starts : (b : List ℕ) → Zeroed b 0
-zero-starts b = record { within = omega arith; rest = refl }
-
 module _ {b : List ℕ} {i : ℕ} (p : Zeroed b i) where
   module _ (h : i < length b) where
     pub zero-next : get_or b i 0 ≡ 0 → Zeroed b (i + 1)
@@ -31,7 +28,3 @@ module _ {b : List ℕ} {i : ℕ} (p : Zeroed b i) where
   pub zero-ends : length b ≤ i → true ≡ all_zero b
   unfolding all_zero
   zero-ends h = rw (drop_of_length-le b h) at p.rest
-
--- what was found is what is said
-pub zero-said : (b : List ℕ) {r t : Bool} → r ≡ all_zero b → r ≡ t → t ≡ all_zero b
-zero-said b e h = sym h ∙ e

@@ -2,55 +2,43 @@
 ghost use Rattle.std.specs.Prelude.{◌≡◌, ◌<◌, ◌^◌, length, take, replicate};
 ghost use Rattle.programs.specs.Lent.{part_of, summed, all_zero};
 
+// What each byte of lent memory is before a call.
+pub const LENT: u8 = 0xa5;
+
 pub fn wide(b: u8) -> u64
     ensures { (result ≡ b) × (result < 2 ^ 8) }
 {
-    b as u64
+    u64::from(b)
 }
 
 // The bytes from a to e; none if they aren't all there.
 pub fn part(s: &[u8], a: usize, e: usize) -> &[u8]
     ensures { result.now ≡ part_of s.now a e }
 {
-    if s.len() < e {
-        return &s[0..0];
-    }
-    if e < a {
-        return &s[0..0];
-    }
-    &s[a..e]
+    s.get(a..e).unwrap_or(&[])
 }
 
 // The first n bytes, or all if there are fewer.
 pub fn front(s: &[u8], n: usize) -> &[u8]
     ensures { result.now ≡ take n s.now }
 {
-    if s.len() < n {
-        return s;
-    }
-    &s[0..n]
+    &s[..n.min(s.len())]
 }
 
 // Fills out with A5: a byte that a call leaves alone is still A5.
 pub fn fill(out: &mut [u8])
     ensures { out.new ≡ replicate (length out.old) 0xa5 }
 {
-    let mut i = 0;
-    while i < out.len() {
-        out[i] = 0xa5;
-        i += 1;
-    }
+    out.fill(LENT);
 }
 
 // A sum that depends on where each byte is.
 pub fn sum(b: &[u8]) -> u64
     ensures { result ≡ summed 0 b.now }
 {
-    let mut s: u64 = 0;
-    let mut i = 0;
-    while i < b.len() {
-        s = (s * 31 + wide(b[i])) % 4294967296;
-        i += 1;
+    let mut s = 0;
+    for x in b {
+        s = (s * 31 + u64::from(*x)) % 4294967296;
     }
     s
 }
@@ -59,12 +47,10 @@ pub fn sum(b: &[u8]) -> u64
 pub fn is_zero(b: &[u8]) -> bool
     ensures { result ≡ all_zero b.now }
 {
-    let mut i = 0;
-    while i < b.len() {
-        if b[i] != 0 {
+    for x in b {
+        if *x != 0 {
             return false;
         }
-        i += 1;
     }
     true
 }

@@ -1,6 +1,8 @@
-// What the programs print. No contract here can say what reaches standard output, since that of the toolchain's
-// `write_all` doesn't. So each function returns what it made of its argument: how many bytes a text has, or how many
-// digits a number.
+// What a program prints, and how much of it: how many bytes a text has, or how many digits a number. No contract here
+// can say what reaches standard output, since that of the toolchain's `write_all` doesn't. So each function returns what
+// it made of its argument.
+//
+// It stays beside `shown` and `println!`, since what it promises can't be said of `println!`.
 ghost use Rattle.std.specs.Prelude.{◌≡◌, length};
 ghost use Rattle.io.specs.Digits.{IsDigitCount};
 ghost use Rattle.disc.specs.Refusals.{number as number_of};
@@ -8,7 +10,6 @@ ghost use Rattle.programs.specs.Words.{PartitionDigits};
 ghost use Rattle.programs.specs.Lent.{all_zero};
 
 use crate::lent::{is_zero, wide};
-use disc::places::PartitionRef;
 use disc::refusals::Refusal;
 
 // The descriptor that is standard output.
@@ -50,7 +51,8 @@ pub fn number(n: u64) -> usize
     say_named(b" ", n)
 }
 
-// For narrower numbers, so that a caller needs no cast.
+// For narrower numbers, so that a caller needs no cast. They aren't one generic function over `Into<u64>`: what `into`
+// gives is a relation there, so its contract would leave more than one result.
 pub fn number8(n: u8) -> usize
     ensures { IsDigitCount 10 1 n result }
 {
@@ -84,12 +86,10 @@ pub fn say_byte(b: u8) -> usize
 pub fn say_bytes(s: &[u8]) -> usize
     ensures { result ≡ length s.now }
 {
-    let mut i = 0;
-    while i < s.len() {
-        say_byte(s[i]);
-        i += 1;
+    for b in s {
+        say_byte(*b);
     }
-    i
+    s.len()
 }
 
 pub fn say_refused(answer: u64) -> usize
@@ -105,15 +105,15 @@ pub fn say_refusal(why: Refusal) -> usize
     say_refused(why.number())
 }
 
-pub fn say_partition(p: PartitionRef) -> usize
+pub fn say_partition(p: Option<u16>) -> usize
     ensures { PartitionDigits p result }
 {
     match p {
-        PartitionRef::Unnamed => {
+        None => {
             say(b" none");
             0
         }
-        PartitionRef::Named(n) => number16(n),
+        Some(n) => number16(n),
     }
 }
 
@@ -141,12 +141,10 @@ pub fn say_text(name: &[u8], text: &[u8]) -> usize
     ensures { result ≡ length text.now }
 {
     say(name);
-    let mut i = 0;
-    while i < text.len() {
-        say_character(text[i]);
-        i += 1;
+    for b in text {
+        say_character(*b);
     }
-    i
+    text.len()
 }
 
 // Whether the work space came back all zero.

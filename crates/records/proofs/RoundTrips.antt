@@ -1,5 +1,6 @@
 -- Encoding what was read gives the same bytes, and reading what was encoded gives what encoding keeps: for each record, with its exceptions.
 -- Assumes nothing.
+use Rattle.std.specs.Prelude.{Ok, Err}
 use Prim.Native.Nat.{ℕ, ◌+◌, ◌*◌, ◌<◌, ◌≤◌, ◌^◌}
 use mathlib.Core.Path.{◌≡◌, ap, sym, ◌∙◌}
 use mathlib.Core.List.{List, ◌++◌}
@@ -11,18 +12,13 @@ use lib.Seq.{take_all, get_or-take}
 use Rattle.disc.proofs.PickLaws.{picked-size}
 use Rattle.disc.specs.declared.refusals.Refusal.TheVariants.{Malformed}
 use Rattle.records.specs.Bytes.{byte, u16at, u32at, le16, le32, two, six}
-use Rattle.records.specs.Allocations.{length_in, type_in, raw_of, extent_of, read_extent, encode_extent, short_of, read_short, encode_short, address_of, read_address, encode_address, long_of, no_long, read_long, encode_long, ext_of, no_ext, read_ext, encode_ext}
+use Rattle.records.specs.Allocations.{length_in, type_in, raw_of, extent_of, read_extent, encode_extent, short_of, read_short, encode_short, address_of, read_address, encode_address, long_of, read_long, encode_long, ext_of, read_ext, encode_ext}
 use Rattle.records.specs.Kept.{ExtentValue, ShortValue, AddressValue, LongValue, ExtValue, kept_length, kept_type, kept_short, kept_long, kept_ext}
 use Rattle.records.specs.declared.allocations.ExtentAd.{ExtentAd}
-use Rattle.records.specs.declared.allocations.ExtentRead.TheVariants.{Read as AnExtent, Refused as NoExtent}
 use Rattle.records.specs.declared.allocations.ShortAd.{ShortAd}
-use Rattle.records.specs.declared.allocations.ShortRead.TheVariants.{Read as AShort, Refused as NoShort}
 use Rattle.records.specs.declared.allocations.LbAddr.{LbAddr}
-use Rattle.records.specs.declared.allocations.LbAddrRead.TheVariants.{Read as AnAddress, Refused as NoAddress}
 use Rattle.records.specs.declared.allocations.LongAd.{LongAd}
-use Rattle.records.specs.declared.allocations.LongRead.{LongRead}
 use Rattle.records.specs.declared.allocations.ExtAd.{ExtAd}
-use Rattle.records.specs.declared.allocations.ExtRead.{ExtRead}
 use Rattle.records.proofs.Numbers.{u16-le16, u32-le32, le16-u16, le32-u32, u32-fits, raw-whole, from, from-take}
 use Rattle.disc.specs.Parts.{Bytes}
 
@@ -45,31 +41,31 @@ module _ (n type : ℕ) where
 
 -- ---- extent_ad
 
-pub extent-again : (a : ExtentAd) → ExtentValue a → read_extent (encode_extent a) ≡ AnExtent a
-extent-again a h = λ i. AnExtent (record { length = u32-le32 a.length h.length i; location = u32-le32 a.location h.location i })
+pub extent-again : (a : ExtentAd) → ExtentValue a → read_extent (encode_extent a) ≡ Ok a
+extent-again a h = λ i. Ok (record { length = u32-le32 a.length h.length i; location = u32-le32 a.location h.location i })
 
-pub extent-back : (s : List ℕ) → Bytes s → (a : ExtentAd) → read_extent s ≡ AnExtent a → encode_extent a ≡ take 8 s
+pub extent-back : (s : List ℕ) → Bytes s → (a : ExtentAd) → read_extent s ≡ Ok a → encode_extent a ≡ take 8 s
 extent-back s h a e =
-    let p = picked-size 8 s (AnExtent (extent_of s 0)) (NoExtent Malformed) (AnExtent a) e (λ f. let z : ◌≡◌ {A = ℕ} 0 1 = cc in omega arith) in
+    let p = picked-size 8 s (Ok (extent_of s 0)) (Err Malformed) (Ok a) e (λ f. let z : ◌≡◌ {A = ℕ} 0 1 = cc in omega arith) in
     let q : extent_of s 0 ≡ a = cc in
     ap encode_extent (sym q) ∙ (λ i. le32-u32 s h 0 i ++ le32-u32 s h 4 i) ∙ from-take s 8 p.0
 
 -- ---- short_ad
 
-pub short-kept : (a : ShortAd) → ShortValue a → read_short (encode_short a) ≡ AShort (kept_short a)
+pub short-kept : (a : ShortAd) → ShortValue a → read_short (encode_short a) ≡ Ok (kept_short a)
 short-kept a h = λ i.
-    AShort (record {
+    Ok (record {
       length = raw-length a.length a.extent_type i;
       extent_type = raw-type a.length a.extent_type i;
       block_location = u32-le32 a.block_location h.block i;
     })
 
-pub short-again : (a : ShortAd) → ShortValue a → a.length < 2 ^ 30 → a.extent_type < 4 → read_short (encode_short a) ≡ AShort a
-short-again a h l t = short-kept a h ∙ (λ i. AShort (record { length = mod-eq_of_lt l i; extent_type = mod-eq_of_lt t i; block_location = a.block_location }))
+pub short-again : (a : ShortAd) → ShortValue a → a.length < 2 ^ 30 → a.extent_type < 4 → read_short (encode_short a) ≡ Ok a
+short-again a h l t = short-kept a h ∙ (λ i. Ok (record { length = mod-eq_of_lt l i; extent_type = mod-eq_of_lt t i; block_location = a.block_location }))
 
-pub short_back : (s : List ℕ) → Bytes s → (a : ShortAd) → read_short s ≡ AShort a → encode_short a ≡ take 8 s
+pub short_back : (s : List ℕ) → Bytes s → (a : ShortAd) → read_short s ≡ Ok a → encode_short a ≡ take 8 s
 short_back s h a e =
-    let p = picked-size 8 s (AShort (short_of s 0)) (NoShort Malformed) (AShort a) e (λ f. let z : ◌≡◌ {A = ℕ} 0 1 = cc in omega arith) in
+    let p = picked-size 8 s (Ok (short_of s 0)) (Err Malformed) (Ok a) e (λ f. let z : ◌≡◌ {A = ℕ} 0 1 = cc in omega arith) in
     let q : short_of s 0 ≡ a = cc in
     ap encode_short (sym q)
     ∙ ap (λ (n : ℕ). le32 n ++ le32 (u32at s 4)) (raw-whole (u32at s 0) (u32-fits s h 0))
@@ -81,45 +77,39 @@ short_back s h a e =
 address_same : (a : LbAddr) → AddressValue a → record { block = u32at (le32 a.block) 0; partition_ref = u16at (le16 a.partition_ref) 0 } ≡ a
 address_same a h = λ i. record { block = u32-le32 a.block h.block i; partition_ref = u16-le16 a.partition_ref h.partition i }
 
-pub address-again : (a : LbAddr) → AddressValue a → read_address (encode_address a) ≡ AnAddress a
-address-again a h = ap AnAddress (address_same a h)
+pub address-again : (a : LbAddr) → AddressValue a → read_address (encode_address a) ≡ Ok a
+address-again a h = ap Ok (address_same a h)
 
-pub address-back : (s : List ℕ) → Bytes s → (a : LbAddr) → read_address s ≡ AnAddress a → encode_address a ≡ take 6 s
+pub address-back : (s : List ℕ) → Bytes s → (a : LbAddr) → read_address s ≡ Ok a → encode_address a ≡ take 6 s
 address-back s h a e =
-    let p = picked-size 6 s (AnAddress (address_of s 0)) (NoAddress Malformed) (AnAddress a) e (λ f. let z : ◌≡◌ {A = ℕ} 0 1 = cc in omega arith) in
+    let p = picked-size 6 s (Ok (address_of s 0)) (Err Malformed) (Ok a) e (λ f. let z : ◌≡◌ {A = ℕ} 0 1 = cc in omega arith) in
     let q : address_of s 0 ≡ a = cc in
     ap encode_address (sym q) ∙ (λ i. le32-u32 s h 0 i ++ le16-u16 s h 4 i) ∙ from-take s 6 p.0
 
 -- ---- long_ad
 
-pub long_kept : (a : LongAd) → LongValue a → read_long (encode_long a) ≡ record { answer = 0; ad = kept_long a }
+pub long_kept : (a : LongAd) → LongValue a → read_long (encode_long a) ≡ Ok (kept_long a)
 long_kept a h = λ i.
-    record {
-      answer = 0;
-      ad = record {
-        length = raw-length a.length a.extent_type i;
-        extent_type = raw-type a.length a.extent_type i;
-        location = address_same a.location h.location i;
-        implementation_use = from-whole a.implementation_use 6 h.use6 i;
-      };
-    }
-
-pub long-again : (a : LongAd) → LongValue a → a.length < 2 ^ 30 → a.extent_type < 4 → read_long (encode_long a) ≡ record { answer = 0; ad = a }
-long-again a h l t = long_kept a h ∙ (λ i.
-    record {
-      answer = 0;
-      ad = record {
-        length = mod-eq_of_lt l i;
-        extent_type = mod-eq_of_lt t i;
-        location = a.location;
-        implementation_use = a.implementation_use;
-      };
+    Ok (record {
+      length = raw-length a.length a.extent_type i;
+      extent_type = raw-type a.length a.extent_type i;
+      location = address_same a.location h.location i;
+      implementation_use = from-whole a.implementation_use 6 h.use6 i;
     })
 
-pub long-back : (s : List ℕ) → Bytes s → (a : LongAd) → read_long s ≡ record { answer = 0; ad = a } → encode_long a ≡ take 16 s
+pub long-again : (a : LongAd) → LongValue a → a.length < 2 ^ 30 → a.extent_type < 4 → read_long (encode_long a) ≡ Ok a
+long-again a h l t = long_kept a h ∙ (λ i.
+    Ok (record {
+      length = mod-eq_of_lt l i;
+      extent_type = mod-eq_of_lt t i;
+      location = a.location;
+      implementation_use = a.implementation_use;
+    }))
+
+pub long-back : (s : List ℕ) → Bytes s → (a : LongAd) → read_long s ≡ Ok a → encode_long a ≡ take 16 s
 long-back s h a e =
-    let p = picked-size 16 s (record { answer = 0; ad = long_of s 0 }) (record { answer = 2; ad = no_long }) (record { answer = 0; ad = a }) e (λ f. let z : 2 ≡ 0 = ap (λ (r : LongRead). r.answer) f in omega arith) in
-    let q : long_of s 0 ≡ a = ap (λ (r : LongRead). r.ad) p.1 in
+    let p = picked-size 16 s (Ok (long_of s 0)) (Err Malformed) (Ok a) e (λ f. let z : ◌≡◌ {A = ℕ} 0 1 = cc in omega arith) in
+    let q : long_of s 0 ≡ a = cc in
     ap encode_long (sym q)
     ∙ ap (λ (n : ℕ). le32 n ++ le32 (u32at s 4) ++ le16 (u16at s 8) ++ six s 10) (raw-whole (u32at s 0) (u32-fits s h 0))
     ∙ (λ i. le32-u32 s h 0 i ++ le32-u32 s h 4 i ++ le16-u16 s h 8 i ++ six s 10)
@@ -127,42 +117,37 @@ long-back s h a e =
 
 -- ---- ext_ad: the exception is a recorded length with either top bit set
 
-pub ext-kept : (a : ExtAd) → ExtValue a → read_ext (encode_ext a) ≡ record { answer = 0; ad = kept_ext a }
+pub ext-kept : (a : ExtAd) → ExtValue a → read_ext (encode_ext a) ≡ Ok (kept_ext a)
 ext-kept a h = λ i.
-    record {
-      answer = 0;
-      ad = record {
-        length = raw-length a.length a.extent_type i;
-        extent_type = raw-type a.length a.extent_type i;
-        recorded_length = kept i;
-        information_length = u32-le32 a.information_length h.information i;
-        location = address_same a.location h.location i;
-        implementation_use = from-whole a.implementation_use 2 h.use2 i;
-      };
-    }
+    Ok (record {
+      length = raw-length a.length a.extent_type i;
+      extent_type = raw-type a.length a.extent_type i;
+      recorded_length = kept i;
+      information_length = u32-le32 a.information_length h.information i;
+      location = address_same a.location h.location i;
+      implementation_use = from-whole a.implementation_use 2 h.use2 i;
+    })
   where
     kept : length_in (u32at (le32 (length_in a.recorded_length)) 0) ≡ kept_length a.recorded_length
     kept = rw (u32-le32 (length_in a.recorded_length) (omega arith)) (omega arith)
 
-pub ext-again : (a : ExtAd) → ExtValue a → a.length < 2 ^ 30 → a.extent_type < 4 → a.recorded_length < 2 ^ 30 → read_ext (encode_ext a) ≡ record { answer = 0; ad = a }
+pub ext-again : (a : ExtAd) → ExtValue a → a.length < 2 ^ 30 → a.extent_type < 4 → a.recorded_length < 2 ^ 30 → read_ext (encode_ext a) ≡ Ok a
 ext-again a h l t r = ext-kept a h ∙ (λ i.
-    record {
-      answer = 0;
-      ad = record {
-        length = mod-eq_of_lt l i;
-        extent_type = mod-eq_of_lt t i;
-        recorded_length = mod-eq_of_lt r i;
-        information_length = a.information_length;
-        location = a.location;
-        implementation_use = a.implementation_use;
-      };
-    })
+    Ok (record {
+      length = mod-eq_of_lt l i;
+      extent_type = mod-eq_of_lt t i;
+      recorded_length = mod-eq_of_lt r i;
+      information_length = a.information_length;
+      location = a.location;
+      implementation_use = a.implementation_use;
+    }))
 
-module _ (s : List ℕ) (h : Bytes s) (a : ExtAd) (e : read_ext s ≡ record { answer = 0; ad = a }) where
+module _ (s : List ℕ) (h : Bytes s) (a : ExtAd) (e : read_ext s ≡ Ok a) where
   ext-there : (20 ≤ length s) × (ext_of s 0 ≡ a)
   ext-there =
-      let p = picked-size 20 s (record { answer = 0; ad = ext_of s 0 }) (record { answer = 2; ad = no_ext }) (record { answer = 0; ad = a }) e (λ f. let z : 2 ≡ 0 = ap (λ (r : ExtRead). r.answer) f in omega arith) in
-      (p.0, ap (λ (r : ExtRead). r.ad) p.1)
+      let p = picked-size 20 s (Ok (ext_of s 0)) (Err Malformed) (Ok a) e (λ f. let z : ◌≡◌ {A = ℕ} 0 1 = cc in omega arith) in
+      let q : ext_of s 0 ≡ a = cc in
+      (p.0, q)
 
   ext-bytes : encode_ext a ≡ le32 (raw_of (length_in (u32at s 0)) (type_in (u32at s 0))) ++ le32 (length_in (length_in (u32at s 4))) ++ le32 (u32at s 8) ++ le32 (u32at s 12) ++ le16 (u16at s 16) ++ two s 18
   ext-bytes = ap encode_ext (sym ext-there.1)

@@ -1,30 +1,22 @@
 -- extent_ad (ECMA-167 3/7.1), lb_addr (4/7.1), short_ad, long_ad and ext_ad (4/14.14.1 to 14.14.3), each at an offset: RULES 3.8 to 3.13 and 3.16.
-use Rattle.std.specs.Prelude.{ℕ, ◌+◌, ◌*◌, ◌/◌, ◌%◌, List, ◌++◌, length, replicate, leb}
+use Rattle.std.specs.Prelude.{ℕ, ◌+◌, ◌*◌, ◌/◌, ◌%◌, List, ◌++◌, length, replicate, leb, Result, Ok, Err}
 use Rattle.disc.specs.Choice.{pick}
-use Rattle.disc.specs.Refusals.{number}
 use Rattle.disc.specs.declared.refusals.Refusal.TheVariants.{Malformed}
 use Rattle.records.specs.Bytes.{u16at, u32at, le16, le32, two, six}
 use Rattle.records.specs.declared.allocations.ExtentAd.{ExtentAd}
-use Rattle.records.specs.declared.allocations.ExtentRead.{ExtentRead}
-use Rattle.records.specs.declared.allocations.ExtentRead.TheVariants.{Read as AnExtent, Refused as NoExtent}
 use Rattle.records.specs.declared.allocations.ShortAd.{ShortAd}
-use Rattle.records.specs.declared.allocations.ShortRead.{ShortRead}
-use Rattle.records.specs.declared.allocations.ShortRead.TheVariants.{Read as AShort, Refused as NoShort}
 use Rattle.records.specs.declared.allocations.LbAddr.{LbAddr}
-use Rattle.records.specs.declared.allocations.LbAddrRead.{LbAddrRead}
-use Rattle.records.specs.declared.allocations.LbAddrRead.TheVariants.{Read as AnAddress, Refused as NoAddress}
 use Rattle.records.specs.declared.allocations.LongAd.{LongAd}
-use Rattle.records.specs.declared.allocations.LongRead.{LongRead}
 use Rattle.records.specs.declared.allocations.ExtAd.{ExtAd}
-use Rattle.records.specs.declared.allocations.ExtRead.{ExtRead}
+use Rattle.disc.specs.declared.refusals.Refusal.{Refusal}
 
 -- ---- extent_ad, 8 bytes
 
 abbrev pub extent_of : List ℕ → ℕ → ExtentAd
 extent_of s i = record { length = u32at s i; location = u32at s (i + 4) }
 
-abbrev pub read_extent : List ℕ → ExtentRead
-read_extent s = pick (leb 8 (length s)) (AnExtent (extent_of s 0)) (NoExtent Malformed)
+abbrev pub read_extent : List ℕ → Result ExtentAd Refusal
+read_extent s = pick (leb 8 (length s)) (Ok (extent_of s 0)) (Err Malformed)
 
 abbrev pub encode_extent : ExtentAd → List ℕ
 encode_extent a = le32 a.length ++ le32 a.location
@@ -46,8 +38,8 @@ raw_of length type = length % 0x4000_0000 + type % 4 * 0x4000_0000
 abbrev pub short_of : List ℕ → ℕ → ShortAd
 short_of s i = record { length = length_in (u32at s i); extent_type = type_in (u32at s i); block_location = u32at s (i + 4) }
 
-abbrev pub read_short : List ℕ → ShortRead
-read_short s = pick (leb 8 (length s)) (AShort (short_of s 0)) (NoShort Malformed)
+abbrev pub read_short : List ℕ → Result ShortAd Refusal
+read_short s = pick (leb 8 (length s)) (Ok (short_of s 0)) (Err Malformed)
 
 abbrev pub encode_short : ShortAd → List ℕ
 encode_short a = le32 (raw_of a.length a.extent_type) ++ le32 a.block_location
@@ -57,8 +49,8 @@ encode_short a = le32 (raw_of a.length a.extent_type) ++ le32 a.block_location
 abbrev pub address_of : List ℕ → ℕ → LbAddr
 address_of s i = record { block = u32at s i; partition_ref = u16at s (i + 4) }
 
-abbrev pub read_address : List ℕ → LbAddrRead
-read_address s = pick (leb 6 (length s)) (AnAddress (address_of s 0)) (NoAddress Malformed)
+abbrev pub read_address : List ℕ → Result LbAddr Refusal
+read_address s = pick (leb 6 (length s)) (Ok (address_of s 0)) (Err Malformed)
 
 abbrev pub encode_address : LbAddr → List ℕ
 encode_address a = le32 a.block ++ le16 a.partition_ref
@@ -76,8 +68,8 @@ long_of s i = record {
 abbrev pub no_long : LongAd
 no_long = record { length = 0; extent_type = 0; location = record { block = 0; partition_ref = 0 }; implementation_use = replicate 6 0 }
 
-abbrev pub read_long : List ℕ → LongRead
-read_long s = pick (leb 16 (length s)) (record { answer = 0; ad = long_of s 0 }) (record { answer = number Malformed; ad = no_long })
+abbrev pub read_long : List ℕ → Result LongAd Refusal
+read_long s = pick (leb 16 (length s)) (Ok (long_of s 0)) (Err Malformed)
 
 abbrev pub encode_long : LongAd → List ℕ
 encode_long a = le32 (raw_of a.length a.extent_type) ++ encode_address a.location ++ six a.implementation_use 0
@@ -104,8 +96,8 @@ no_ext = record {
   implementation_use = replicate 2 0;
 }
 
-abbrev pub read_ext : List ℕ → ExtRead
-read_ext s = pick (leb 20 (length s)) (record { answer = 0; ad = ext_of s 0 }) (record { answer = number Malformed; ad = no_ext })
+abbrev pub read_ext : List ℕ → Result ExtAd Refusal
+read_ext s = pick (leb 20 (length s)) (Ok (ext_of s 0)) (Err Malformed)
 
 abbrev pub encode_ext : ExtAd → List ℕ
 encode_ext a =

@@ -1,10 +1,9 @@
 // extent_ad, short_ad, lb_addr, long_ad and ext_ad.
 ghost use Rattle.std.specs.Prelude.{◌≡◌, ◌+◌, ◌<◌, length};
 ghost use Rattle.records.specs.Bytes.{le16, le32, two, six};
-ghost use Rattle.records.specs.Allocations.{extent_of, read_extent, encode_extent, short_of, read_short, encode_short, read_address, encode_address, long_of, no_long, read_long, encode_long, ext_of, no_ext, read_ext, encode_ext};
+ghost use Rattle.records.specs.Allocations.{raw_of, extent_of, read_extent, encode_extent, short_of, read_short, encode_short, read_address, encode_address, long_of, no_long, read_long, encode_long, ext_of, no_ext, read_ext, encode_ext};
 
 use crate::bytes::{byte_at, le16, le32};
-use disc::answers::{DONE, MALFORMED};
 use disc::refusals::Refusal;
 
 #[repr(C)]
@@ -12,12 +11,6 @@ use disc::refusals::Refusal;
 pub struct ExtentAd {
     pub length: u32,
     pub location: u32,
-}
-
-#[derive(Clone, Copy)]
-pub enum ExtentRead {
-    Read(ExtentAd),
-    Refused(Refusal),
 }
 
 // The extent_ad at `i`; zeros past the end.
@@ -37,30 +30,29 @@ pub fn extent_at(s: &[u8], i: usize) -> ExtentAd
 }
 
 impl ExtentAd {
-    pub fn parse(s: &[u8]) -> ExtentRead
+    pub fn parse(s: &[u8]) -> Result<ExtentAd, Refusal>
         ensures { result ≡ read_extent s.now }
     {
         if s.len() < 8 {
-            ExtentRead::Refused(Refusal::Malformed)
-        } else {
-            ExtentRead::Read(extent_at(s, 0))
+            return Err(Refusal::Malformed);
         }
+        Ok(extent_at(s, 0))
     }
 
     pub fn encode(self) -> [u8; 8]
         ensures { result ≡ encode_extent self }
     {
-        [
-            (self.length % 256) as u8,
-            (self.length / 256 % 256) as u8,
-            (self.length / 65536 % 256) as u8,
-            (self.length / 16777216 % 256) as u8,
-            (self.location % 256) as u8,
-            (self.location / 256 % 256) as u8,
-            (self.location / 65536 % 256) as u8,
-            (self.location / 16777216 % 256) as u8,
-        ]
+        let [a, b, c, d] = self.length.to_le_bytes();
+        let [e, f, g, h] = self.location.to_le_bytes();
+        [a, b, c, d, e, f, g, h]
     }
+}
+
+// A raw length: 30 bits of the length below 2 of the type.
+fn raw_of(length: u32, extent_type: u8) -> u32
+    ensures { result ≡ raw_of length extent_type }
+{
+    length % 0x4000_0000 + (extent_type % 4) as u32 * 0x4000_0000
 }
 
 #[repr(C)]
@@ -69,12 +61,6 @@ pub struct ShortAd {
     pub length: u32,
     pub extent_type: u8,
     pub block_location: u32,
-}
-
-#[derive(Clone, Copy)]
-pub enum ShortRead {
-    Read(ShortAd),
-    Refused(Refusal),
 }
 
 // The short_ad at `i`; zeros past the end.
@@ -97,30 +83,21 @@ pub fn short_at(s: &[u8], i: usize) -> ShortAd
 }
 
 impl ShortAd {
-    pub fn parse(s: &[u8]) -> ShortRead
+    pub fn parse(s: &[u8]) -> Result<ShortAd, Refusal>
         ensures { result ≡ read_short s.now }
     {
         if s.len() < 8 {
-            ShortRead::Refused(Refusal::Malformed)
-        } else {
-            ShortRead::Read(short_at(s, 0))
+            return Err(Refusal::Malformed);
         }
+        Ok(short_at(s, 0))
     }
 
     pub fn encode(self) -> [u8; 8]
         ensures { result ≡ encode_short self }
     {
-        let n = self.length % 0x4000_0000 + (self.extent_type % 4) as u32 * 0x4000_0000;
-        [
-            (n % 256) as u8,
-            (n / 256 % 256) as u8,
-            (n / 65536 % 256) as u8,
-            (n / 16777216 % 256) as u8,
-            (self.block_location % 256) as u8,
-            (self.block_location / 256 % 256) as u8,
-            (self.block_location / 65536 % 256) as u8,
-            (self.block_location / 16777216 % 256) as u8,
-        ]
+        let [a, b, c, d] = raw_of(self.length, self.extent_type).to_le_bytes();
+        let [e, f, g, h] = self.block_location.to_le_bytes();
+        [a, b, c, d, e, f, g, h]
     }
 }
 
@@ -134,37 +111,25 @@ pub struct LbAddr {
     pub partition_ref: u16,
 }
 
-#[derive(Clone, Copy)]
-pub enum LbAddrRead {
-    Read(LbAddr),
-    Refused(Refusal),
-}
-
 impl LbAddr {
-    pub fn parse(s: &[u8]) -> LbAddrRead
+    pub fn parse(s: &[u8]) -> Result<LbAddr, Refusal>
         ensures { result ≡ read_address s.now }
     {
         if s.len() < 6 {
-            LbAddrRead::Refused(Refusal::Malformed)
-        } else {
-            LbAddrRead::Read(LbAddr {
-                block: le32(s, 0),
-                partition_ref: le16(s, 4),
-            })
+            return Err(Refusal::Malformed);
         }
+        Ok(LbAddr {
+            block: le32(s, 0),
+            partition_ref: le16(s, 4),
+        })
     }
 
     pub fn encode(self) -> [u8; 6]
         ensures { result ≡ encode_address self }
     {
-        [
-            (self.block % 256) as u8,
-            (self.block / 256 % 256) as u8,
-            (self.block / 65536 % 256) as u8,
-            (self.block / 16777216 % 256) as u8,
-            (self.partition_ref % 256) as u8,
-            (self.partition_ref / 256 % 256) as u8,
-        ]
+        let [a, b, c, d] = self.block.to_le_bytes();
+        let [e, f] = self.partition_ref.to_le_bytes();
+        [a, b, c, d, e, f]
     }
 }
 
@@ -180,14 +145,6 @@ pub struct LongAd {
     pub location: LbAddr,
     // As recorded.
     pub implementation_use: [u8; 6],
-}
-
-// An enum can hold no array, so this has an answer number, and zeros on a refusal.
-#[repr(C)]
-#[derive(Clone, Copy)]
-pub struct LongRead {
-    pub answer: u64,
-    pub ad: LongAd,
 }
 
 // All zeros.
@@ -239,44 +196,22 @@ pub fn long_at(s: &[u8], i: usize) -> LongAd
 }
 
 impl LongAd {
-    pub fn parse(s: &[u8]) -> LongRead
+    pub fn parse(s: &[u8]) -> Result<LongAd, Refusal>
         ensures { result ≡ read_long s.now }
     {
         if s.len() < 16 {
-            LongRead {
-                answer: MALFORMED,
-                ad: no_long(),
-            }
-        } else {
-            LongRead {
-                answer: DONE,
-                ad: long_at(s, 0),
-            }
+            return Err(Refusal::Malformed);
         }
+        Ok(long_at(s, 0))
     }
 
     pub fn encode(self) -> [u8; 16]
         ensures { result ≡ encode_long self }
     {
-        let n = self.length % 0x4000_0000 + (self.extent_type % 4) as u32 * 0x4000_0000;
-        [
-            (n % 256) as u8,
-            (n / 256 % 256) as u8,
-            (n / 65536 % 256) as u8,
-            (n / 16777216 % 256) as u8,
-            (self.location.block % 256) as u8,
-            (self.location.block / 256 % 256) as u8,
-            (self.location.block / 65536 % 256) as u8,
-            (self.location.block / 16777216 % 256) as u8,
-            (self.location.partition_ref % 256) as u8,
-            (self.location.partition_ref / 256 % 256) as u8,
-            self.implementation_use[0],
-            self.implementation_use[1],
-            self.implementation_use[2],
-            self.implementation_use[3],
-            self.implementation_use[4],
-            self.implementation_use[5],
-        ]
+        let [a, b, c, d] = raw_of(self.length, self.extent_type).to_le_bytes();
+        let [e, f, g, h, i, j] = self.location.encode();
+        let [k, l, m, n, o, p] = self.implementation_use;
+        [a, b, c, d, e, f, g, h, i, j, k, l, m, n, o, p]
     }
 }
 
@@ -292,14 +227,8 @@ pub struct ExtAd {
     pub implementation_use: [u8; 2],
 }
 
-#[repr(C)]
-#[derive(Clone, Copy)]
-pub struct ExtRead {
-    pub answer: u64,
-    pub ad: ExtAd,
-}
-
-fn no_ext() -> ExtAd
+// All zeros.
+pub fn no_ext() -> ExtAd
     ensures { result ≡ no_ext }
 {
     ExtAd {
@@ -344,48 +273,23 @@ pub fn ext_at(s: &[u8], i: usize) -> ExtAd
 }
 
 impl ExtAd {
-    pub fn parse(s: &[u8]) -> ExtRead
+    pub fn parse(s: &[u8]) -> Result<ExtAd, Refusal>
         ensures { result ≡ read_ext s.now }
     {
         if s.len() < 20 {
-            ExtRead {
-                answer: MALFORMED,
-                ad: no_ext(),
-            }
-        } else {
-            ExtRead {
-                answer: DONE,
-                ad: ext_at(s, 0),
-            }
+            return Err(Refusal::Malformed);
         }
+        Ok(ext_at(s, 0))
     }
 
     pub fn encode(self) -> [u8; 20]
         ensures { result ≡ encode_ext self }
     {
-        let n = self.length % 0x4000_0000 + (self.extent_type % 4) as u32 * 0x4000_0000;
-        let m = self.recorded_length % 0x4000_0000;
-        [
-            (n % 256) as u8,
-            (n / 256 % 256) as u8,
-            (n / 65536 % 256) as u8,
-            (n / 16777216 % 256) as u8,
-            (m % 256) as u8,
-            (m / 256 % 256) as u8,
-            (m / 65536 % 256) as u8,
-            (m / 16777216 % 256) as u8,
-            (self.information_length % 256) as u8,
-            (self.information_length / 256 % 256) as u8,
-            (self.information_length / 65536 % 256) as u8,
-            (self.information_length / 16777216 % 256) as u8,
-            (self.location.block % 256) as u8,
-            (self.location.block / 256 % 256) as u8,
-            (self.location.block / 65536 % 256) as u8,
-            (self.location.block / 16777216 % 256) as u8,
-            (self.location.partition_ref % 256) as u8,
-            (self.location.partition_ref / 256 % 256) as u8,
-            self.implementation_use[0],
-            self.implementation_use[1],
-        ]
+        let [a, b, c, d] = raw_of(self.length, self.extent_type).to_le_bytes();
+        let [e, f, g, h] = (self.recorded_length % 0x4000_0000).to_le_bytes();
+        let [i, j, k, l] = self.information_length.to_le_bytes();
+        let [m, n, o, p, q, r] = self.location.encode();
+        let [t, u] = self.implementation_use;
+        [a, b, c, d, e, f, g, h, i, j, k, l, m, n, o, p, q, r, t, u]
     }
 }

@@ -5,13 +5,13 @@ ghost use Rattle.records.specs.Bytes.{byte, u16at, u32at, u64at};
 fn pair(a: u8, b: u8) -> u16
     ensures { result ≡ a + b * 256 }
 {
-    a as u16 + b as u16 * 256
+    u16::from_le_bytes([a, b])
 }
 
 fn quad(a: u8, b: u8, c: u8, d: u8) -> u32
     ensures { result ≡ a + b * 256 + c * 65536 + d * 16777216 }
 {
-    a as u32 + b as u32 * 256 + c as u32 * 65536 + d as u32 * 16777216
+    u32::from_le_bytes([a, b, c, d])
 }
 
 fn join(low: u32, high: u32) -> u64

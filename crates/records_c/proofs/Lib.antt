@@ -1,3 +1,2 @@
 -- Laws of the answers that cross, and of decoding.
-pub mod AnswerLaws
 pub mod DecodeLaws

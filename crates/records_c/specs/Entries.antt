@@ -1,21 +1,19 @@
 -- The entry of a file as it crosses to C, which an enum can't.
-use Rattle.std.specs.Prelude.{ℕ, Bool, true, false}
+use Rattle.std.specs.Prelude.{ℕ, Bool, true, false, Option, Some, None}
 use Rattle.disc.specs.Replies.{Answer}
 use Rattle.entries.specs.Answers.{no_entry}
 use Rattle.entries.specs.declared.file_entries.FileEntry.{FileEntry}
-use Rattle.entries.specs.declared.file_entries.ObjectSize.{ObjectSize}
-use Rattle.entries.specs.declared.file_entries.ObjectSize.TheVariants.{Recorded, Absent}
 use Rattle.records_c.specs.declared.file_records.EntryFields.{EntryFields}
 use Rattle.records_c.specs.declared.file_records.EntryAnswer.{EntryAnswer}
 
 -- Whether there is an object size, and which: 0 where there is none.
-abbrev pub has_size : ObjectSize → Bool
-has_size (Recorded n) = true
-has_size Absent = false
+abbrev pub has_size : Option ℕ → Bool
+has_size (Some n) = true
+has_size None = false
 
-abbrev pub size_in : ObjectSize → ℕ
-size_in (Recorded n) = n
-size_in Absent = 0
+abbrev pub size_in : Option ℕ → ℕ
+size_in (Some n) = n
+size_in None = 0
 
 -- Every field of an entry.
 abbrev pub fields_of : FileEntry → EntryFields

@@ -4,12 +4,10 @@
 // ext_ad's recorded length.
 ghost use Rattle.std.specs.Prelude.{◌≡◌};
 ghost use Rattle.records.specs.Allocations.{read_extent, encode_extent, read_short, encode_short, read_address, encode_address, read_long, encode_long, read_ext, encode_ext};
-ghost use Rattle.records.specs.Answers.{extent_answer, short_answer, address_answer};
+ghost use Rattle.records.specs.Answers.{extent_answer, short_answer, address_answer, long_answer, ext_answer};
 
-use disc::answers::DONE;
-use records::allocations::{
-    ExtAd, ExtRead, ExtentAd, ExtentRead, LbAddr, LbAddrRead, LongAd, LongRead, ShortAd, ShortRead,
-};
+use crate::answers::told;
+use records::allocations::{ExtAd, ExtentAd, LbAddr, LongAd, ShortAd, no_ext, no_long};
 
 // An array can't be returned to C by value, a struct that holds one can.
 #[repr(C)]
@@ -64,23 +62,32 @@ pub struct AddressAnswer {
     pub value: LbAddr,
 }
 
+#[repr(C)]
+#[derive(Clone, Copy)]
+pub struct LongAnswer {
+    pub answer: u64,
+    pub value: LongAd,
+}
+
+#[repr(C)]
+#[derive(Clone, Copy)]
+pub struct ExtAnswer {
+    pub answer: u64,
+    pub value: ExtAd,
+}
+
 #[unsafe(no_mangle)]
 pub extern "C" fn records_parse_extent_ad(bytes: &[u8]) -> ExtentAnswer
     ensures { record { number = result.answer; value = result.value } ≡ extent_answer (read_extent bytes.now) }
 {
-    match ExtentAd::parse(bytes) {
-        ExtentRead::Read(value) => ExtentAnswer {
-            answer: DONE,
-            value,
+    let (answer, value) = told(
+        ExtentAd::parse(bytes),
+        ExtentAd {
+            length: 0,
+            location: 0,
         },
-        ExtentRead::Refused(why) => ExtentAnswer {
-            answer: why.number(),
-            value: ExtentAd {
-                length: 0,
-                location: 0,
-            },
-        },
-    }
+    );
+    ExtentAnswer { answer, value }
 }
 
 #[unsafe(no_mangle)]
@@ -96,20 +103,15 @@ pub extern "C" fn records_encode_extent_ad(value: ExtentAd) -> ExtentBytes
 pub extern "C" fn records_parse_short_ad(bytes: &[u8]) -> ShortAnswer
     ensures { record { number = result.answer; value = result.value } ≡ short_answer (read_short bytes.now) }
 {
-    match ShortAd::parse(bytes) {
-        ShortRead::Read(value) => ShortAnswer {
-            answer: DONE,
-            value,
+    let (answer, value) = told(
+        ShortAd::parse(bytes),
+        ShortAd {
+            length: 0,
+            extent_type: 0,
+            block_location: 0,
         },
-        ShortRead::Refused(why) => ShortAnswer {
-            answer: why.number(),
-            value: ShortAd {
-                length: 0,
-                extent_type: 0,
-                block_location: 0,
-            },
-        },
-    }
+    );
+    ShortAnswer { answer, value }
 }
 
 #[unsafe(no_mangle)]
@@ -125,19 +127,14 @@ pub extern "C" fn records_encode_short_ad(value: ShortAd) -> ShortBytes
 pub extern "C" fn records_parse_lb_addr(bytes: &[u8]) -> AddressAnswer
     ensures { record { number = result.answer; value = result.value } ≡ address_answer (read_address bytes.now) }
 {
-    match LbAddr::parse(bytes) {
-        LbAddrRead::Read(value) => AddressAnswer {
-            answer: DONE,
-            value,
+    let (answer, value) = told(
+        LbAddr::parse(bytes),
+        LbAddr {
+            block: 0,
+            partition_ref: 0,
         },
-        LbAddrRead::Refused(why) => AddressAnswer {
-            answer: why.number(),
-            value: LbAddr {
-                block: 0,
-                partition_ref: 0,
-            },
-        },
-    }
+    );
+    AddressAnswer { answer, value }
 }
 
 #[unsafe(no_mangle)]
@@ -150,10 +147,11 @@ pub extern "C" fn records_encode_lb_addr(value: LbAddr) -> AddressBytes
 }
 
 #[unsafe(no_mangle)]
-pub extern "C" fn records_parse_long_ad(bytes: &[u8]) -> LongRead
-    ensures { result ≡ read_long bytes.now }
+pub extern "C" fn records_parse_long_ad(bytes: &[u8]) -> LongAnswer
+    ensures { record { number = result.answer; value = result.value } ≡ long_answer (read_long bytes.now) }
 {
-    LongAd::parse(bytes)
+    let (answer, value) = told(LongAd::parse(bytes), no_long());
+    LongAnswer { answer, value }
 }
 
 #[unsafe(no_mangle)]
@@ -166,10 +164,11 @@ pub extern "C" fn records_encode_long_ad(value: LongAd) -> LongBytes
 }
 
 #[unsafe(no_mangle)]
-pub extern "C" fn records_parse_ext_ad(bytes: &[u8]) -> ExtRead
-    ensures { result ≡ read_ext bytes.now }
+pub extern "C" fn records_parse_ext_ad(bytes: &[u8]) -> ExtAnswer
+    ensures { record { number = result.answer; value = result.value } ≡ ext_answer (read_ext bytes.now) }
 {
-    ExtAd::parse(bytes)
+    let (answer, value) = told(ExtAd::parse(bytes), no_ext());
+    ExtAnswer { answer, value }
 }
 
 #[unsafe(no_mangle)]

@@ -3,14 +3,16 @@ ghost use Rattle.std.specs.Prelude.{◌≡◌, false};
 ghost use Rattle.entries.specs.Answers.{no_icb_tag, icb_tag_answer, entry_answer};
 ghost use Rattle.entries.specs.FileEntries.{read_entry};
 ghost use Rattle.entries.specs.IcbTags.{read_icb_tag};
-ghost use Rattle.identifiers.specs.Identifiers.{read_identifier, identifier_read};
-ghost use Rattle.records_c.specs.Entries.{has_size, size_in, fields_of, no_fields, fields_answer};
+ghost use Rattle.identifiers.specs.Answers.{no_identifier, identifier_answer};
+ghost use Rattle.identifiers.specs.Identifiers.{read_identifier};
+ghost use Rattle.records_c.specs.Entries.{fields_of, no_fields, fields_answer};
 
+use crate::answers::told;
 use disc::answers::DONE;
-use entries::file_entries::{EntryRead, FileEntry, ObjectSize};
-use entries::icb_tags::{IcbTag, IcbTagRead};
-use identifiers::{FileIdentifierDescriptor, IdentifierRead};
-use records::allocations::LbAddr;
+use entries::file_entries::FileEntry;
+use entries::icb_tags::IcbTag;
+use identifiers::FileIdentifierDescriptor;
+use records::allocations::{LbAddr, no_long};
 use tags::{DescriptorTag, no_tag};
 
 #[repr(C)]
@@ -41,16 +43,8 @@ fn no_icb_tag() -> IcbTag
 pub extern "C" fn records_parse_icb_tag(bytes: &[u8]) -> IcbTagAnswer
     ensures { record { number = result.answer; value = result.value } ≡ icb_tag_answer (read_icb_tag bytes.now) }
 {
-    match IcbTag::parse(bytes) {
-        IcbTagRead::Read(value) => IcbTagAnswer {
-            answer: DONE,
-            value,
-        },
-        IcbTagRead::Refused(why) => IcbTagAnswer {
-            answer: why.number(),
-            value: no_icb_tag(),
-        },
-    }
+    let (answer, value) = told(IcbTag::parse(bytes), no_icb_tag());
+    IcbTagAnswer { answer, value }
 }
 
 // A file entry (id 261) or an extended one (266). The area of allocation descriptors, or the embedded file, is in
@@ -89,24 +83,6 @@ pub struct EntryAnswer {
     pub value: EntryFields,
 }
 
-fn has_size(size: ObjectSize) -> bool
-    ensures { result ≡ has_size size }
-{
-    match size {
-        ObjectSize::Recorded(_) => true,
-        ObjectSize::Absent => false,
-    }
-}
-
-fn size_in(size: ObjectSize) -> u64
-    ensures { result ≡ size_in size }
-{
-    match size {
-        ObjectSize::Recorded(n) => n,
-        ObjectSize::Absent => 0,
-    }
-}
-
 fn fields_of(e: FileEntry) -> EntryFields
     ensures { result ≡ fields_of e }
 {
@@ -125,8 +101,8 @@ fn fields_of(e: FileEntry) -> EntryFields
         record_length: e.record_length,
         information_length: e.information_length,
         logical_blocks_recorded: e.logical_blocks_recorded,
-        has_object_size: has_size(size),
-        object_size: size_in(size),
+        has_object_size: size.is_some(),
+        object_size: size.unwrap_or(0),
         length_of_extended_attributes: e.length_of_extended_attributes,
         length_of_allocation_descriptors: e.length_of_allocation_descriptors,
         kind: e.kind,
@@ -165,20 +141,46 @@ pub extern "C" fn records_parse_file_entry(bytes: &[u8]) -> EntryAnswer
     ensures { result ≡ fields_answer (entry_answer (read_entry false bytes.now)) }
 {
     match FileEntry::parse(false, bytes) {
-        EntryRead::Read(e) => EntryAnswer {
+        Ok(e) => EntryAnswer {
             answer: DONE,
             value: fields_of(e),
         },
-        EntryRead::Refused(why) => EntryAnswer {
+        Err(why) => EntryAnswer {
             answer: why.number(),
             value: no_fields(),
         },
     }
 }
 
-#[unsafe(no_mangle)]
-pub extern "C" fn records_parse_file_identifier(bytes: &[u8]) -> IdentifierRead
-    ensures { result ≡ identifier_read (read_identifier false bytes.now) }
+#[repr(C)]
+#[derive(Clone, Copy)]
+pub struct IdentifierAnswer {
+    pub answer: u64,
+    pub value: FileIdentifierDescriptor,
+}
+
+fn no_identifier() -> FileIdentifierDescriptor
+    ensures { result ≡ no_identifier }
 {
-    FileIdentifierDescriptor::parse(false, bytes)
+    FileIdentifierDescriptor {
+        tag: no_tag(),
+        file_version_number: 0,
+        file_characteristics: 0,
+        icb: no_long(),
+        name_at: 0,
+        name_length: 0,
+        name_size: 0,
+        total_size: 0,
+    }
+}
+
+#[unsafe(no_mangle)]
+pub extern "C" fn records_parse_file_identifier(bytes: &[u8]) -> IdentifierAnswer
+    ensures { record { number = result.answer; value = result.value } ≡ identifier_answer (read_identifier false bytes.now) }
+{
+    let (answer, value) = told(
+        FileIdentifierDescriptor::parse(false, bytes),
+        no_identifier(),
+    );
+    IdentifierAnswer { answer, value }
 }

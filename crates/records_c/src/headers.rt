@@ -8,10 +8,10 @@ ghost use Rattle.crcs.specs.Crcs.{crc_of};
 ghost use Rattle.tags.specs.Answers.{tag_answer, aed_answer};
 ghost use Rattle.tags.specs.Tags.{read_tag, encode_tag, in_place, body_right, read_aed, encode_aed};
 
+use crate::answers::told;
 use crcs::crc;
-use disc::answers::DONE;
 use disc::places::{Block, Sector};
-use tags::{AedRead, AllocationExtentDescriptor, DescriptorTag, TagRead, no_tag};
+use tags::{AllocationExtentDescriptor, DescriptorTag, no_tag};
 
 #[repr(C)]
 #[derive(Clone, Copy)]
@@ -43,16 +43,8 @@ pub struct AedAnswer {
 pub extern "C" fn records_parse_tag(bytes: &[u8]) -> TagAnswer
     ensures { record { number = result.answer; value = result.value } ≡ tag_answer (read_tag bytes.now) }
 {
-    match DescriptorTag::parse(bytes) {
-        TagRead::Read(value) => TagAnswer {
-            answer: DONE,
-            value,
-        },
-        TagRead::Refused(why) => TagAnswer {
-            answer: why.number(),
-            value: no_tag(),
-        },
-    }
+    let (answer, value) = told(DescriptorTag::parse(bytes), no_tag());
+    TagAnswer { answer, value }
 }
 
 #[unsafe(no_mangle)]
@@ -96,20 +88,15 @@ pub extern "C" fn records_tag_body(tag: DescriptorTag, bytes: &[u8]) -> bool
 pub extern "C" fn records_parse_aed(bytes: &[u8]) -> AedAnswer
     ensures { record { number = result.answer; value = result.value } ≡ aed_answer (read_aed false bytes.now) }
 {
-    match AllocationExtentDescriptor::parse(false, bytes) {
-        AedRead::Header(value) => AedAnswer {
-            answer: DONE,
-            value,
+    let (answer, value) = told(
+        AllocationExtentDescriptor::parse(false, bytes),
+        AllocationExtentDescriptor {
+            tag: no_tag(),
+            previous_allocation_extent_location: 0,
+            length_of_allocation_descriptors: 0,
         },
-        AedRead::NoHeader(why) => AedAnswer {
-            answer: why.number(),
-            value: AllocationExtentDescriptor {
-                tag: no_tag(),
-                previous_allocation_extent_location: 0,
-                length_of_allocation_descriptors: 0,
-            },
-        },
-    }
+    );
+    AedAnswer { answer, value }
 }
 
 #[unsafe(no_mangle)]

@@ -15,6 +15,7 @@
 #![tactic(auto)]
 
 pub mod allocations;
+mod answers;
 pub mod dstrings;
 pub mod file_records;
 pub mod headers;

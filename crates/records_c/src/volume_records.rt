@@ -3,17 +3,17 @@
 // Each begins with a tag that has its id (2, 1, 5, 6, 256). Identifiers are d-string fields as recorded; one that can't
 // be decoded is refused.
 ghost use Rattle.std.specs.Prelude.{◌≡◌, false};
-ghost use Rattle.descriptors.specs.Answers.{anchor_answer, partition_answer};
-ghost use Rattle.descriptors.specs.FileSets.{read_file_set, file_set_read};
-ghost use Rattle.descriptors.specs.Volumes.{read_anchor, read_primary, primary_read, read_partition, read_logical, logical_read};
+ghost use Rattle.descriptors.specs.Answers.{anchor_answer, primary_answer, partition_answer, logical_answer, file_set_answer};
+ghost use Rattle.descriptors.specs.FileSets.{read_file_set};
+ghost use Rattle.descriptors.specs.Volumes.{read_anchor, read_primary, read_partition, read_logical};
 
-use descriptors::anchors::{AnchorRead, AnchorVolumeDescriptorPointer};
-use descriptors::file_sets::{FileSetDescriptor, FileSetRead};
-use descriptors::logicals::{LogicalRead, LogicalVolumeDescriptor};
-use descriptors::partitions::{PartitionDescriptor, PartitionRead};
-use descriptors::primaries::{PrimaryRead, PrimaryVolumeDescriptor};
-use disc::answers::DONE;
-use records::allocations::ExtentAd;
+use crate::answers::told;
+use descriptors::anchors::AnchorVolumeDescriptorPointer;
+use descriptors::file_sets::FileSetDescriptor;
+use descriptors::logicals::LogicalVolumeDescriptor;
+use descriptors::partitions::PartitionDescriptor;
+use descriptors::primaries::PrimaryVolumeDescriptor;
+use records::allocations::{ExtentAd, no_long};
 use tags::no_tag;
 
 #[repr(C)]
@@ -30,72 +30,110 @@ pub struct PartitionAnswer {
     pub value: PartitionDescriptor,
 }
 
+#[repr(C)]
+#[derive(Clone, Copy)]
+pub struct PrimaryAnswer {
+    pub answer: u64,
+    pub value: PrimaryVolumeDescriptor,
+}
+
+#[repr(C)]
+#[derive(Clone, Copy)]
+pub struct LogicalAnswer {
+    pub answer: u64,
+    pub value: LogicalVolumeDescriptor,
+}
+
+#[repr(C)]
+#[derive(Clone, Copy)]
+pub struct FileSetAnswer {
+    pub answer: u64,
+    pub value: FileSetDescriptor,
+}
+
 #[unsafe(no_mangle)]
 pub extern "C" fn records_parse_anchor(bytes: &[u8]) -> AnchorAnswer
     ensures { record { number = result.answer; value = result.value } ≡ anchor_answer (read_anchor false bytes.now) }
 {
-    match AnchorVolumeDescriptorPointer::parse(false, bytes) {
-        AnchorRead::Read(value) => AnchorAnswer {
-            answer: DONE,
-            value,
+    let nowhere = ExtentAd {
+        length: 0,
+        location: 0,
+    };
+    let (answer, value) = told(
+        AnchorVolumeDescriptorPointer::parse(false, bytes),
+        AnchorVolumeDescriptorPointer {
+            tag: no_tag(),
+            main_volume_descriptor_sequence: nowhere,
+            reserve_volume_descriptor_sequence: nowhere,
         },
-        AnchorRead::Refused(why) => AnchorAnswer {
-            answer: why.number(),
-            value: AnchorVolumeDescriptorPointer {
-                tag: no_tag(),
-                main_volume_descriptor_sequence: ExtentAd {
-                    length: 0,
-                    location: 0,
-                },
-                reserve_volume_descriptor_sequence: ExtentAd {
-                    length: 0,
-                    location: 0,
-                },
-            },
-        },
-    }
+    );
+    AnchorAnswer { answer, value }
 }
 
 #[unsafe(no_mangle)]
-pub extern "C" fn records_parse_primary_volume(bytes: &[u8]) -> PrimaryRead
-    ensures { result ≡ primary_read (read_primary false bytes.now) }
+pub extern "C" fn records_parse_primary_volume(bytes: &[u8]) -> PrimaryAnswer
+    ensures { record { number = result.answer; value = result.value } ≡ primary_answer (read_primary false bytes.now) }
 {
-    PrimaryVolumeDescriptor::parse(false, bytes)
+    let (answer, value) = told(
+        PrimaryVolumeDescriptor::parse(false, bytes),
+        PrimaryVolumeDescriptor {
+            tag: no_tag(),
+            volume_descriptor_sequence_number: 0,
+            primary_volume_descriptor_number: 0,
+            volume_identifier: [0; 32],
+        },
+    );
+    PrimaryAnswer { answer, value }
 }
 
 #[unsafe(no_mangle)]
 pub extern "C" fn records_parse_partition(bytes: &[u8]) -> PartitionAnswer
     ensures { record { number = result.answer; value = result.value } ≡ partition_answer (read_partition false bytes.now) }
 {
-    match PartitionDescriptor::parse(false, bytes) {
-        PartitionRead::Read(value) => PartitionAnswer {
-            answer: DONE,
-            value,
+    let (answer, value) = told(
+        PartitionDescriptor::parse(false, bytes),
+        PartitionDescriptor {
+            tag: no_tag(),
+            volume_descriptor_sequence_number: 0,
+            partition_flags: 0,
+            partition_number: 0,
+            partition_starting_location: 0,
+            partition_length: 0,
         },
-        PartitionRead::Refused(why) => PartitionAnswer {
-            answer: why.number(),
-            value: PartitionDescriptor {
-                tag: no_tag(),
-                volume_descriptor_sequence_number: 0,
-                partition_flags: 0,
-                partition_number: 0,
-                partition_starting_location: 0,
-                partition_length: 0,
-            },
-        },
-    }
+    );
+    PartitionAnswer { answer, value }
 }
 
 #[unsafe(no_mangle)]
-pub extern "C" fn records_parse_logical_volume(bytes: &[u8]) -> LogicalRead
-    ensures { result ≡ logical_read (read_logical false bytes.now) }
+pub extern "C" fn records_parse_logical_volume(bytes: &[u8]) -> LogicalAnswer
+    ensures { record { number = result.answer; value = result.value } ≡ logical_answer (read_logical false bytes.now) }
 {
-    LogicalVolumeDescriptor::parse(false, bytes)
+    let (answer, value) = told(
+        LogicalVolumeDescriptor::parse(false, bytes),
+        LogicalVolumeDescriptor {
+            tag: no_tag(),
+            volume_descriptor_sequence_number: 0,
+            logical_volume_identifier: [0; 128],
+            logical_block_size: 0,
+            file_set_descriptor_location: no_long(),
+            map_table_length: 0,
+            number_of_partition_maps: 0,
+            partition_maps: [0; 24],
+        },
+    );
+    LogicalAnswer { answer, value }
 }
 
 #[unsafe(no_mangle)]
-pub extern "C" fn records_parse_file_set(bytes: &[u8]) -> FileSetRead
-    ensures { result ≡ file_set_read (read_file_set false bytes.now) }
+pub extern "C" fn records_parse_file_set(bytes: &[u8]) -> FileSetAnswer
+    ensures { record { number = result.answer; value = result.value } ≡ file_set_answer (read_file_set false bytes.now) }
 {
-    FileSetDescriptor::parse(false, bytes)
+    let (answer, value) = told(
+        FileSetDescriptor::parse(false, bytes),
+        FileSetDescriptor {
+            tag: no_tag(),
+            root_directory_icb: no_long(),
+        },
+    );
+    FileSetAnswer { answer, value }
 }

@@ -1,4 +1,5 @@
 -- The first pass of a show: a directory opened, and its entries in their turns. Assumes nothing.
+use Rattle.std.specs.Prelude.{Result, Ok, Err}
 use mathlib.Core.Path.{◌≡◌, refl, sym, ap, ◌∙◌}
 use mathlib.Core.Bool.{Bool, true, false}
 use mathlib.Core.List.{List, [], ◌∷◌}
@@ -24,10 +25,9 @@ use Rattle.records.specs.Allocations.{long_of}
 use Rattle.records.specs.declared.allocations.LongAd.{LongAd}
 use Rattle.identifiers.specs.Identifiers.{bit, is_directory}
 use Rattle.listings.specs.Entries.{Entry, is_skipped, entries}
-use Rattle.listings.specs.Listings.{entry_record}
+use Rattle.listings.specs.Listings.{records, entry_record}
 use Rattle.listings.specs.Inner.Passes.{seen_of, size_of_listing}
 use Rattle.listings.specs.declared.directory_entries.EntrySeen.{EntrySeen}
-use Rattle.listings.specs.declared.listing.ListingSize.{ListingSize}
 use Rattle.listings.proofs.EntryLaws.{Known, Inside, seen-inside, Sees, seen-known}
 use Rattle.directories.specs.Directories.{directory_bytes}
 use Rattle.directories.specs.Inner.Spaces.{reply_to, Reads}
@@ -103,27 +103,29 @@ module _ (d : Disc) (m : Mount) (icb : LongAd) (w w' : List ℕ) {read : Reply} 
             ∙ rw read_is
             (ap (after R.count) (ran_then d (ended (entries (is_checked m) b)) (f b) ∙ ap (λ (r : Ran (List Entry)). followed r (λ es. ran d (f b es))) (ran-ended d (entries (is_checked m) b))))
 
-        module _ {check : Bool} (q : check ≡ is_checked m) {size : ListingSize} (s : size ≡ size_of_listing (entries check (take (read.length - 0) (drop 0 w')))) where
+        module _ {check : Bool} (q : check ≡ is_checked m) {size : Result ℕ Refusal} (s : size ≡ size_of_listing (entries check (take (read.length - 0) (drop 0 w')))) where
           s' : size ≡ size_of_listing (entries (is_checked m) b)
           s' = s ∙ rw (sub-zero, q)
 
-          pub open-bad : (size.answer ≡ 0 → ⊥) → {q : ShowPlace} {l : ℕ} → q ≡ stopped_at size.answer c → Opens d m icb p₀ w w' (record { place = q; length = l })
-          open-bad n {q} {l} e = by (entries (is_checked m) b) refl s'
+          pub open-bad : {why : Refusal} → size ≡ Err why → {a : ℕ} → a ≡ number why → {q : ShowPlace} {l : ℕ} → q ≡ stopped_at a c → Opens d m icb p₀ w w' (record { place = q; length = l })
+          open-bad {why} n {a} v {q} {l} e = by (entries (is_checked m) b) refl (sym n ∙ s')
             where
-              by : (o : Outcome (List Entry)) → entries (is_checked m) b ≡ o → size ≡ size_of_listing o → Opens d m icb p₀ w w' (record { place = q; length = l })
-              by (answered es) f g = absurd (n (ap (λ (x : ListingSize). x.answer) g))
-              by (refused why) f g = record {
-                good = λ z. absurd (n (sym (ap (λ (x : ShowPlace). x.answer) e) ∙ z));
-                bad = λ z. record {
-                  shows = λ of h l. visited-refused why R.count (parsed-is h ∙ rw f (rw add-zero)) (e ∙ ap (λ a. stopped_at a c) (ap (λ (x : ListingSize). x.answer) g) ∙ sym (stopped-is why));
-                };
-              }
+              by : (o : Outcome (List Entry)) → entries (is_checked m) b ≡ o → Err why ≡ size_of_listing o → Opens d m icb p₀ w w' (record { place = q; length = l })
+              by (answered es) f g = absurd (let y : ◌≡◌ {A = ℕ} 0 1 = cc in omega arith)
+              by (refused x) f g =
+                  let same : why ≡ x = cc in
+                  record {
+                    good = λ z. absurd (refusal-numbered why (sym v ∙ sym (ap (λ (x : ShowPlace). x.answer) e) ∙ z));
+                    bad = λ z. record {
+                      shows = λ of h l. visited-refused x R.count (parsed-is h ∙ rw f (rw add-zero)) (e ∙ ap (λ a. stopped_at a c) (v ∙ ap number same) ∙ sym (stopped-is x));
+                    };
+                  }
 
-          pub open-good : size.answer ≡ 0 → read.length ≤ length w' → {k : ℕ} → k ≡ reported (p₀.size + size.size)
+          pub open-good : {n : ℕ} → size ≡ Ok n → read.length ≤ length w' → {k : ℕ} → k ≡ reported (p₀.size + n)
               → Opens d m icb p₀ w w' (record { place = record { answer = 0; count = c; size = k; most = p₀.most }; length = read.length })
-          open-good n l {k} g = by (entries (is_checked m) b) refl s'
+          open-good {n} v l {k} g = by (entries (is_checked m) b) refl (sym v ∙ s')
             where
-              by : (o : Outcome (List Entry)) → entries (is_checked m) b ≡ o → size ≡ size_of_listing o
+              by : (o : Outcome (List Entry)) → entries (is_checked m) b ≡ o → Ok n ≡ size_of_listing o
                   → Opens d m icb p₀ w w' (record { place = record { answer = 0; count = c; size = k; most = p₀.most }; length = read.length })
               by (answered es) f e = record {
                 good = λ z. record {
@@ -133,11 +135,11 @@ module _ (d : Disc) (m : Mount) (icb : LongAd) (w w' : List ℕ) {read : Reply} 
                   are = f;
                   goes = λ h. parsed-is h ∙ rw f (ap (λ k. record { outcome = (ran d (h b es)).outcome; count = R.count + k }) (zero-add (ran d (h b es)).count));
                   within = omega (arith, counted);
-                  place = rw (counted, g) (ap (λ i. record { answer = 0; count = reported (p₀.count + R.count); size = reported (p₀.size + i); most = p₀.most }) (ap (λ (x : ListingSize). x.size) e));
+                  place = let same : n ≡ length (records es) = cc in rw (counted, g) (ap (λ i. record { answer = 0; count = reported (p₀.count + R.count); size = reported (p₀.size + i); most = p₀.most }) same);
                 };
                 bad = λ z. absurd (z refl);
               }
-              by (refused why) f e = absurd (refusal-numbered why (sym (ap (λ (x : ListingSize). x.answer) e) ∙ n))
+              by (refused why) f e = absurd (let y : ◌≡◌ {A = ℕ} 0 1 = cc in omega arith)
 
 -- ---- the turn of the entry at `at` in a directory whose bytes are the first n of the work space
 

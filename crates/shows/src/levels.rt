@@ -70,21 +70,20 @@ fn open_level(image: &[u8], mount: Mount, icb: LongAd, p: ShowPlace, work: &mut 
     }
     let length = read.length as usize;
     let check = mount.is_checked();
-    let parsed = measure(check, &work[0..length]);
-    if parsed.answer != DONE {
-        return OpenedLevel {
-            place: stopped(parsed.answer, count),
+    match measure(check, &work[0..length]) {
+        Err(why) => OpenedLevel {
+            place: stopped(why.number(), count),
             length: 0,
-        };
-    }
-    OpenedLevel {
-        place: ShowPlace {
-            answer: DONE,
-            count,
-            size: add_counts(p.size, parsed.size as u64),
-            most: p.most,
         },
-        length,
+        Ok(size) => OpenedLevel {
+            place: ShowPlace {
+                answer: DONE,
+                count,
+                size: add_counts(p.size, size as u64),
+                most: p.most,
+            },
+            length,
+        },
     }
 }
 
@@ -114,6 +113,7 @@ pub(crate) fn visit_level(
         return q;
     }
     let mut at: usize = 0;
+    // No `for`: each entry says itself where the next one starts.
     while at + LEAST_SIZE <= n {
         let t = visit_entry(image, mount, n, at, below, q, work, tally);
         q = t.place;

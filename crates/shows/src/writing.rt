@@ -37,6 +37,7 @@ pub(crate) fn write_level(
     let n = read.length as usize;
     let mut to = from;
     let mut at: usize = 0;
+    // No `for`: each entry says itself where the next one starts.
     while at + LEAST_SIZE <= n {
         let t = write_entry(image, mount, n, at, level, below, to, work, out);
         to = t.to;

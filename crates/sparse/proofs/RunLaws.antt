@@ -3,7 +3,6 @@ use mathlib.Core.Path.{◌≡◌, refl, ap, sym, ◌∙◌}
 use mathlib.Core.Bool.{Bool, true, false}
 use mathlib.Core.List.{List, [], append-nil}
 use Prim.Native.Nat.{ℕ, suc, ◌+◌, ◌-◌, ◌<◌, ◌≤◌, ◌^◌, min}
-use native.Mathlib.Nat.{sub-zero}
 use native.Mathlib.Omega.{arith}
 use lib.ListN.{length, take, drop, replicate, length-drop, drop_of_length-le}
 use lib.Seq.{take_all}
@@ -79,9 +78,6 @@ pub record Laying (s before image : List ℕ) (n i k : ℕ) : Type 0 where
   pub number : n ≡ u32at s 4
   pub long : length image ≡ length before
   pub rest : laid_runs (n - k) s i image ≡ laid_runs n s 8 before
-
-pub lay-starts : (s image : List ℕ) (n : ℕ) → n ≡ u32at s 4 → Laying s image image n 8 0
-lay-starts s image n e = record { within = omega arith; number = e; long = refl; rest = rw sub-zero }
 
 -- a run that is whole
 module _ (s : List ℕ) (i : ℕ) {end : ℕ} (e : end ≡ run_end s i) (z : end ≡ 0 → ⊥) where

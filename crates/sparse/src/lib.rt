@@ -8,7 +8,7 @@ ghost use Rattle.std.specs.Prelude.{◌≡◌};
 ghost use Rattle.records.specs.Bytes.{u32at};
 ghost use Rattle.sparse.specs.Runs.{laid, run_end, laid_runs, Expanded};
 
-use disc::moves::{clear, copy, least};
+use disc::moves::{clear, copy};
 use records::bytes::le32;
 
 // Where the run at i, with its head of 8 bytes, ends; 0 if it isn't whole.
@@ -46,8 +46,7 @@ pub fn lay_runs(packed: &[u8], image: &mut [u8])
 {
     let n = le32(packed, 4);
     let mut i = 8;
-    let mut k: u32 = 0;
-    while k < n {
+    for _ in 0..n {
         let end = run_end(packed, i);
         if end == 0 {
             return;
@@ -55,7 +54,6 @@ pub fn lay_runs(packed: &[u8], image: &mut [u8])
         let from = i + 8;
         lay(&packed[from..end], le32(packed, i), image);
         i = end;
-        k += 1;
     }
 }
 
@@ -63,7 +61,7 @@ pub fn lay_runs(packed: &[u8], image: &mut [u8])
 pub fn expand(packed: &[u8], image: &mut [u8]) -> usize
     ensures { Expanded packed.now image.old image.new result }
 {
-    let n = least(le32(packed, 0) as usize, image.len());
+    let n = (le32(packed, 0) as usize).min(image.len());
     clear(image);
     lay_runs(packed, image);
     n

@@ -6,18 +6,19 @@
 // tools/survey_model.py computes what is expected, from the shelves and the rules.
 #![tactic(auto)]
 
-ghost use Rattle.std.specs.Prelude.{◌≡◌, ◌<◌, ◌≤◌, length};
+ghost use Rattle.std.specs.Prelude.{◌<◌, ◌≤◌, length, IfOk};
 
 use disc::answers::DONE;
 use disc::counts::UNLIMITED;
-use disc::moves::least;
 use figures::{PLACE, total};
-use programs::lent::{fill, mebibyte, part};
-use programs::words::{end_line, number, say, say_named, say_zero};
+use programs::lent::{front, mebibyte, part};
+use programs::read_full;
+use programs::shown::{Numbers, WorkSpace};
 use records::bytes::{le16, le32, le64};
 use sparse::expand;
-use std::fs;
+use std::alloc::{AllocError, Global};
 use std::os::fd::AsRawFd;
+use std::{fs, io};
 use surveys::survey;
 use volumes::choices::chosen;
 
@@ -28,229 +29,208 @@ const FREE: u64 = 0xa5a5_a5a5_a5a5_a5a5;
 const HEAD: usize = 28;
 
 // Room for a shelf of five volumes.
-fn three_mebibytes() -> [u8; 3145728]
-    ensures { 3145728 ≡ length result }
-{
-    [0; 3145728]
-}
+const SHELF: usize = 3145728;
+
+// The most lengths of a survey.
+const LENGTHS: usize = 64;
+
+// The most that is lent: numbers of a row, and bytes of work space.
+const NUMBERS: usize = 2048;
+
+const WORK: usize = 65536;
 
 // ---- rows
 
-fn fill_row(row: &mut [u64]) {
-    let mut i = 0;
-    while i < row.len() {
-        row[i] = FREE;
-        i += 1;
-    }
+fn numbers_of(bytes: &[u8], alloc: Global) -> Result<Vec<u64>, AllocError> {
+    bytes.chunks_exact(8).map(|n| le64(n, 0)).collect(alloc)
 }
 
-// Puts the numbers of a query at the front of a row, as far as both go.
-fn take_numbers(numbers: &[u8], row: &mut [u64]) {
-    let n = least(numbers.len() / 8, row.len());
-    let mut i = 0;
-    while i < n {
-        row[i] = le64(numbers, 8 * i);
-        i += 1;
-    }
-}
-
-fn say_numbers(row: &[u64]) {
-    let mut i = 0;
-    while i < row.len() {
-        number(row[i]);
-        i += 1;
-    }
-}
-
-// 1 if a number is as it came.
-fn is_free(n: u64) -> u64
-    ensures { result ≤ 1 }
-{
-    if n == FREE {
-        return 1;
-    }
-    0
-}
-
-fn count_free(row: &[u64]) -> u64 {
-    let mut count: u64 = 0;
-    let mut i = 0;
-    while i < row.len() {
-        count += is_free(row[i]);
-        i += 1;
-    }
-    count
+// How many numbers are as they came.
+fn count_free(row: &[u64]) -> usize {
+    row.iter().filter(|n| **n == FREE).count()
 }
 
 // ---- places
 
-fn say_figure(i: usize, figure: u64, mark: u64) {
+fn say_figure(rt: &impl Print, i: usize, figure: u64, mark: u64) -> io::Result<()> {
     if (figure == 0) & (mark == 0) {
-        return;
+        return Ok(());
     }
-    number(i as u64);
-    say_named(b":", figure);
+    print!(rt; " {i}:{figure}")?;
     if mark != 0 {
-        say_named(b"!", mark);
+        print!(rt; "!{mark}")?;
     }
+    Ok(())
 }
 
-fn say_place(place: &[u64]) {
-    say(b"place");
-    let n = place.len() / 2;
-    let mut i = 0;
-    while i < n {
-        say_figure(i, place[2 * i], place[2 * i + 1]);
-        i += 1;
+fn say_place(rt: &impl Print, place: &[u64]) -> io::Result<()> {
+    print!(rt; "place")?;
+    for (i, pair) in place.chunks_exact(2).enumerate() {
+        if let [figure, mark] = pair {
+            say_figure(rt, i, *figure, *mark)?;
+        }
     }
-    end_line();
+    println!(rt)
 }
 
 // Every whole place of a row.
-fn say_places(row: &[u64]) {
-    let n = row.len() / PLACE;
-    let mut i = 0;
-    while i < n {
-        let at = PLACE * i;
-        say_place(&row[at..at + PLACE]);
-        i += 1;
+fn say_places(rt: &impl Print, row: &[u64]) -> io::Result<()> {
+    for place in row.chunks_exact(PLACE) {
+        say_place(rt, place)?;
     }
+    Ok(())
 }
 
 // How many numbers the first n places of a row have, or all its places if they are fewer.
 fn in_places(numbers: usize, n: usize) -> usize
     ensures { result ≤ numbers }
 {
-    PLACE * least(numbers / PLACE, n)
+    PLACE * n.min(numbers / PLACE)
 }
 
 // ---- the queries
 
-// A budget of sectors, if there is one.
-fn say_most(most: u64) {
+fn say_asked(
+    rt: &impl Print,
+    how: u32,
+    most: u64,
+    lengths: &[u64],
+    numbers: usize,
+    work: usize,
+) -> io::Result<()> {
+    print!(rt; "survey how {how} numbers {numbers} work {work}")?;
     if most != UNLIMITED {
-        say_named(b" most ", most);
+        print!(rt; " most {most}")?;
     }
+    println!(rt; " lengths{}", Numbers(lengths))
 }
 
-fn say_asked(how: u32, most: u64, lengths: &[u64], numbers: usize, work: usize) {
-    say_named(b"survey how ", how as u64);
-    say_named(b" numbers ", numbers as u64);
-    say_named(b" work ", work as u64);
-    say_most(most);
-    say(b" lengths");
-    say_numbers(lengths);
-    end_line();
-}
-
-fn say_answer(answer: u64, row: &[u64], whole: usize)
+// The answer, and how many numbers behind the first `whole` are as they came.
+fn say_answer(rt: &impl Print, answer: u64, row: &[u64], whole: usize) -> io::Result<()>
     requires { whole ≤ length row.now }
 {
-    say_named(b"answer ", answer);
-    say_named(b" kept ", count_free(&row[whole..]));
+    print!(rt; "answer {answer} kept {}", count_free(&row[whole..]))
 }
 
 fn ask_survey(
+    rt: &(impl Print + AllocGlobal),
     shelf: &[u8],
+    q: &[u8],
     lengths: &[u64],
-    how: u32,
-    most: u64,
     row: &mut [u64],
-    work: &mut [u8],
-) {
-    say_asked(how, most, lengths, row.len(), work.len());
-    fill(work);
-    let answer = survey(shelf, lengths, chosen(how), most, row, work);
+) -> io::Result<()> {
+    let how = le32(q, 4);
+    let most = le64(q, 16);
+    let mut work = vec![in rt.alloc(); 0xa5u8; WORK.min(le32(q, 12) as usize)]?;
+    say_asked(rt, how, most, lengths, row.len(), work.len())?;
+    let answer = survey(shelf, lengths, chosen(how), most, row, &mut work);
     let places = if answer == DONE { lengths.len() + 1 } else { 0 };
     let whole = in_places(row.len(), places);
-    say_answer(answer, row, whole);
-    say_zero(work);
-    say_places(&row[0..whole]);
+    say_answer(rt, answer, row, whole)?;
+    println!(rt; " {}", WorkSpace(&work))?;
+    say_places(rt, &row[..whole])
 }
 
-fn ask_total(places: u64, row: &mut [u64]) {
-    say_named(b"total ", places);
-    say_named(b" numbers ", row.len() as u64);
-    end_line();
-    let answer = total(row, places as usize);
+// The first number says how many places the row has, or none if there are no numbers. The others are put at its front,
+// as far as both go.
+fn ask_total(rt: &impl Print, numbers: &[u64], row: &mut [u64]) -> io::Result<()> {
+    let (places, stored) = numbers.split_first().unwrap_or((&0, &[]));
+    for (place, number) in row.iter_mut().zip(stored.iter()) {
+        *place = *number;
+    }
+    println!(rt; "total {places} numbers {}", row.len())?;
+    let answer = total(row, *places as usize);
     let whole = in_places(row.len(), row.len());
-    say_answer(answer, row, whole);
-    end_line();
-    say_places(&row[0..whole]);
+    say_answer(rt, answer, row, whole)?;
+    println!(rt)?;
+    say_places(rt, &row[..whole])
 }
 
-fn total_of(numbers: &[u8], row: &mut [u64]) {
-    take_numbers(part(numbers, 8, numbers.len()), row);
-    ask_total(le64(numbers, 0), row);
+// ---- the queries
+
+// What a query asks.
+#[derive(Clone, Copy)]
+enum Question {
+    Survey,
+    Total,
 }
 
-fn survey_of(shelf: &[u8], q: &[u8], numbers: &[u8], row: &mut [u64], work: &mut [u8]) {
-    let mut lengths = [0u64; 64];
-    let n = least(numbers.len() / 8, 64);
-    take_numbers(numbers, &mut lengths);
-    ask_survey(shelf, &lengths[0..n], le32(q, 4), le64(q, 16), row, work);
+impl From<u32> for Question {
+    fn from(number: u32) -> Self {
+        match number {
+            0 => Question::Survey,
+            _ => Question::Total,
+        }
+    }
 }
 
 // A query: what is asked, how images are opened, how many numbers the row has, the work space's size (32 bits each),
 // how many sectors an image is lent (64 bits), how many numbers follow (32 bits), and these (64 bits each).
-fn query(shelf: &[u8], q: &[u8], row: &mut [u64], work: &mut [u8]) {
-    let n = least(le32(q, 8) as usize, row.len());
-    let space = least(le32(q, 12) as usize, work.len());
-    let numbers = part(q, HEAD, q.len());
-    fill_row(row);
-    if le32(q, 0) != 0 {
-        total_of(numbers, &mut row[0..n]);
-        return;
+fn query(rt: &(impl Print + AllocGlobal), shelf: &[u8], q: &[u8]) -> io::Result<()> {
+    let mut row = vec![in rt.alloc(); FREE; NUMBERS.min(le32(q, 8) as usize)]?;
+    let numbers = numbers_of(part(q, HEAD, q.len()), rt.alloc())?;
+    match Question::from(le32(q, 0)) {
+        Question::Survey => {
+            let lengths = &numbers[..LENGTHS.min(numbers.len())];
+            ask_survey(rt, shelf, q, lengths, &mut row)
+        }
+        Question::Total => ask_total(rt, &numbers, &mut row),
     }
-    survey_of(shelf, q, numbers, &mut row[0..n], &mut work[0..space]);
 }
 
 // Each query in turn: a head, whose last four bytes say how many numbers follow, and these.
-fn queries(shelf: &[u8], all: &[u8], row: &mut [u64], work: &mut [u8]) {
+fn queries(rt: &(impl Print + AllocGlobal), shelf: &[u8], all: &[u8]) -> io::Result<()> {
     let mut i = 0;
+    // A `while`, since each query says itself where the next one starts: `for` is no plainer.
     while i < all.len() {
         let end = i + HEAD + 8 * le32(all, i + 24) as usize;
-        query(shelf, part(all, i, end), row, work);
+        query(rt, shelf, part(all, i, end))?;
         i = end;
     }
+    Ok(())
 }
 
 // ---- the file of shelves
 
-fn ask_all(shelf: &[u8], all: &[u8], work: &mut [u8]) {
-    let mut row = [0u64; 2048];
-    queries(shelf, all, &mut row, work);
-}
-
 // Runs the shelf at i with its queries; returns where the next shelf is.
-fn run(all: &[u8], i: usize, shelf: &mut [u8], work: &mut [u8]) -> usize
+fn run(rt: &(impl Print + AllocGlobal), all: &[u8], i: usize, shelf: &mut [u8]) -> io::Result<usize>
     requires { i < length all.now }
-    ensures { i < result }
+    ensures { IfOk result (λ next. i < next) }
 {
     let packed = i + 2 + le16(all, i) as usize;
-    say(b"shelf ");
-    say(part(all, i + 2, packed));
-    end_line();
+    // The name is shown as it is stored, whatever its bytes are.
+    print!(rt; "shelf ")?;
+    rt.write_all(part(all, i + 2, packed))?;
+    println!(rt)?;
     let end = packed + 4 + le32(all, packed) as usize;
     let n = expand(part(all, packed + 4, end), shelf);
     let next = end + 4 + le32(all, end) as usize;
-    ask_all(part(shelf, 0, n), part(all, end + 4, next), work);
-    next
+    queries(rt, front(shelf, n), part(all, end + 4, next))?;
+    Ok(next)
 }
 
-fn run_all(all: &[u8], shelf: &mut [u8], work: &mut [u8]) {
+fn run_all(rt: &(impl Print + AllocGlobal), all: &[u8], shelf: &mut [u8]) -> io::Result<()> {
     let mut i = 0;
+    // A `while`, since each shelf says itself where the next one starts: `for` is no plainer.
     while i < all.len() {
-        i = run(all, i, shelf, work);
+        i = run(rt, all, i, shelf)?;
+    }
+    Ok(())
+}
+
+// A line that can't be written doesn't change the exit status. Memory that runs out does.
+fn unless_unwritten(r: io::Result<()>) -> io::Result<()> {
+    match r {
+        Err(e) if e.kind() != io::ErrorKind::OutOfMemory => Ok(()),
+        _ => r,
     }
 }
 
-fn main(rt: HostRuntime) -> std::io::Result<()> {
+fn main(rt: HostRuntime) -> io::Result<()> {
     let file = fs::open(&rt, "shelves")?;
+    // A mebibyte of the file is looked at. A read that fails ends it.
     let mut all = mebibyte();
-    let n = io::read_full(file.as_raw_fd(), &mut all);
-    let mut shelf = three_mebibytes();
-    let mut work = io::large_buffer();
-    run_all(&all[..n], &mut shelf, &mut work);
-    Ok(())
+    let n = read_full(file.as_raw_fd(), &mut all);
+    let mut shelf = vec![in rt.alloc(); 0u8; SHELF]?;
+    unless_unwritten(run_all(&rt, front(&all, n), &mut shelf))
 }

@@ -1,4 +1,5 @@
 -- What holds of the figures of an image: what the functions cite that open it and fill its place. Assumes nothing.
+use Rattle.std.specs.Prelude.{Option, Some, None}
 use mathlib.Core.Path.{◌≡◌, refl, ap, sym, ◌∙◌}
 use mathlib.Core.Bool.{Bool, true, false}
 use mathlib.Core.List.{List, [], ◌∷◌, map}
@@ -22,8 +23,6 @@ use Rattle.disc.proofs.RanLaws.{ran-refuse}
 use Rattle.disc.proofs.RefusalLaws.{refusal-listed, refusal-numbered}
 use Rattle.volumes.specs.Choices.{opening_by}
 use Rattle.volumes.specs.Openings.{opening, opened_by, opened_of, no_volume}
-use Rattle.volumes.specs.declared.choices.Choice.{Choice}
-use Rattle.volumes.specs.declared.choices.Choice.TheVariants.{Known, Unknown}
 use Rattle.volumes.specs.declared.openings.How.{How}
 use Rattle.volumes.specs.declared.openings.Opened.{Opened}
 use Rattle.volumes.specs.declared.openings.VolumeRecord.{VolumeRecord}
@@ -38,14 +37,14 @@ use Rattle.surveys.specs.Surveys.{image_by, volume_by, of_image}
 
 -- ---- the opening
 
-module _ (image : List ℕ) {how : Choice} where
-  pub open_unknown : how ≡ Unknown → {r : Opened} → r ≡ record { answer = 4; count = 0; volume = no_volume } → r ≡ opened_of (ran (disc image) (opening_by how))
+module _ (image : List ℕ) {how : Option How} where
+  pub open_unknown : how ≡ None → {r : Opened} → r ≡ record { answer = 4; count = 0; volume = no_volume } → r ≡ opened_of (ran (disc image) (opening_by how))
   open_unknown u e = e ∙ rw (u, ran-refuse (disc image) Unsupported)
 
-  pub open-known : {choices : How} → how ≡ Known choices → {r : Opened} → r ≡ opened_of (ran (disc image) (opening choices)) → r ≡ opened_of (ran (disc image) (opening_by how))
+  pub open-known : {choices : How} → how ≡ Some choices → {r : Opened} → r ≡ opened_of (ran (disc image) (opening choices)) → r ≡ opened_of (ran (disc image) (opening_by how))
   open-known k e = rw k e
 
-module _ (image : List ℕ) (how : Choice) (most : ℕ) {r : Opened} (q : r ≡ opened_of (ran (disc image) (opening_by how))) where
+module _ (image : List ℕ) (how : Option How) (most : ℕ) {r : Opened} (q : r ≡ opened_of (ran (disc image) (opening_by how))) where
   abbrev O : Ran VolumeRecord
   O = ran (disc image) (opening_by how)
 
@@ -118,13 +117,13 @@ volume-wide : (d : Disc) (left work : ℕ) (o : Outcome VolumeRecord) → Wide (
 volume-wide d left work (answered v) = added-wide (one_image (tree_tally d v.mount v.root left work).answer) (tally-listed d v.mount v.root left work).wide
 volume-wide d left work (refused why) = one-wide (number why) (refusal-listed why)
 
-pub image-wide : (how : Choice) (most work : ℕ) (image : List ℕ) → Wide (of_image how most work image)
+pub image-wide : (how : Option How) (most work : ℕ) (image : List ℕ) → Wide (of_image how most work image)
 unfolding of_image
 image-wide how most work image = let r = ran (disc image) (budgeted most (opening_by how)) in volume-wide (disc image) (left_of most r.count) work r.outcome
 
 -- ---- the place of an image
 
-module _ (image : List ℕ) (how : Choice) (most : ℕ) {r : Opened} (q : r ≡ opened_of (ran (disc image) (budgeted most (opening_by how)))) where
+module _ (image : List ℕ) (how : Option How) (most : ℕ) {r : Opened} (q : r ≡ opened_of (ran (disc image) (budgeted most (opening_by how)))) where
   abbrev B : Ran VolumeRecord
   B = ran (disc image) (budgeted most (opening_by how))
 

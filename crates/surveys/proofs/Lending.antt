@@ -1,5 +1,6 @@
 -- What is promised of the sectors that a survey lends to each image: one that wants more is one image under 16 and nothing else, any other has the figures that it has
 -- with no budget, and no file is counted under 16. RULES 16.13. Assumes nothing.
+use Rattle.std.specs.Prelude.{Option}
 use mathlib.Core.Path.{◌≡◌, refl, ap, sym, ◌∙◌}
 use mathlib.Core.Bool.{Bool, true, false}
 use mathlib.Core.List.{List, [], ◌∷◌}
@@ -24,7 +25,6 @@ use Rattle.disc.proofs.BudgetLaws.{budgeted-same, budgeted-over, left-enough}
 use Rattle.disc.proofs.ImageLaws.{split}
 use Rattle.records.specs.declared.allocations.LongAd.{LongAd}
 use Rattle.volumes.specs.Choices.{opening_by}
-use Rattle.volumes.specs.declared.choices.Choice.{Choice}
 use Rattle.volumes.specs.declared.openings.VolumeRecord.{VolumeRecord}
 use Rattle.figures.specs.Figures.{nothing, one_image, sum}
 use Rattle.figures.proofs.RowLaws.{each_none}
@@ -36,6 +36,7 @@ use Rattle.shows.proofs.Summing.{nodes-summed}
 use Rattle.surveys.specs.Surveys.{image_by, volume_by, volume_of, of_image}
 use Rattle.surveys.specs.Shelves.{reads_want, tree_wants, volume_wants, image_wants}
 use Rattle.surveys.proofs.ImageLaws.{none-added}
+use Rattle.volumes.specs.declared.openings.How.{How}
 
 -- ---- a tree and the reads of its files
 
@@ -65,7 +66,7 @@ module _ (d : Disc) (m : Mount) (root : LongAd) (left work : ℕ) where
 
 -- ---- an image
 
-module _ (how : Choice) (work : ℕ) (image : List ℕ) where
+module _ (how : Option How) (work : ℕ) (image : List ℕ) where
   abbrev O : Ran VolumeRecord
   O = ran (disc image) (opening_by how)
 
@@ -112,7 +113,7 @@ tally-16 d m left (answered ns) = by (reads_within d m left ns)
     by true = (nodes-summed d m ns).by_files 16 (omega arith) ∙ ap length (none_over d m (files_in ns))
     by false = refl
 
-pub no-file-16 : (how : Choice) (most work : ℕ) (image : List ℕ) → get_or (of_image how most work image).by_files 16 0 ≡ 0
+pub no-file-16 : (how : Option How) (most work : ℕ) (image : List ℕ) → get_or (of_image how most work image).by_files 16 0 ≡ 0
 unfolding of_image
 no-file-16 how most work image = let r = ran (disc image) (budgeted most (opening_by how)) in by (left_of most r.count) r.outcome
   where

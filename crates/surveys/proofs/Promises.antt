@@ -1,5 +1,6 @@
 -- What is promised of a survey, from the definitions alone: exactly when it is 15, where the figures of each image and of the shelf stand, what an image that is refused
 -- leaves, what the shelf's sectors and chain are to the images', that over carries, and that images may be surveyed one by one. RULES 16. Assumes nothing.
+use Rattle.std.specs.Prelude.{Option, None}
 use mathlib.Core.Path.{◌≡◌, refl, ap, sym, ◌∙◌}
 use mathlib.Core.Bool.{Bool, true, false, ◌&&◌}
 use mathlib.Core.List.{List, [], ◌∷◌, ◌++◌, map, append_assoc}
@@ -22,8 +23,6 @@ use Rattle.disc.proofs.ImageLaws.{split}
 use Rattle.disc.proofs.RanLaws.{ran-refuse}
 use Rattle.disc.proofs.BudgetLaws.{budgeted-ran}
 use Rattle.disc.proofs.RefusalLaws.{refusal-numbered, refusal-listed}
-use Rattle.volumes.specs.declared.choices.Choice.{Choice}
-use Rattle.volumes.specs.declared.choices.Choice.TheVariants.{Unknown}
 use Rattle.volumes.specs.declared.openings.VolumeRecord.{VolumeRecord}
 use Rattle.figures.specs.Figures.{Figures, nothing, one_image, added, added_to, all_added, row, rows, numbers, pairs, totaled, sum, AllWide}
 use Rattle.figures.proofs.FigureLaws.{zero-holds, row-long, rows_long, rows-total, added_to-wide, marked-over, over-mark}
@@ -35,10 +34,11 @@ use Rattle.surveys.proofs.ImageLaws.{none-added}
 use Rattle.surveys.proofs.ShelfLaws.{all-wide, images-long, rows-with-total}
 use Rattle.surveys.proofs.TotalLaws.{rows-place, sectors-to, chain-most, chain-one, below_total}
 use Rattle.surveys.specs.Shelves.{OneOf, Alone, image_at, each_of, shelf_of, Short, lent_opening, lent_tree, lent_reads}
+use Rattle.volumes.specs.declared.openings.How.{How}
 
 -- ---- an image, and its figures (RULES 16.7)
 
-module _ (how : Choice) (most work : ℕ) (image : List ℕ) where
+module _ (how : Option How) (most work : ℕ) (image : List ℕ) where
   pub opening-alone : {why : Refusal} → (lent_opening how most image).outcome ≡ refused why → (Alone how most work image) why
   unfolding of_image
   opening-alone {why} e = record { is = rw e; numbered = refusal-numbered why }
@@ -65,7 +65,7 @@ module _ (how : Choice) (most work : ℕ) (image : List ℕ) where
         image-sectors = ap (λ (f : Figures). f.sectors) image-tallied ∙ add-zero (of_nodes (disc image) v.mount ns).sectors ∙ sectors-summed (disc image) v.mount ns
 
 -- a number with a bit of no choice is 4 for each
-pub unknown-4 : (most work : ℕ) (image : List ℕ) → of_image Unknown most work image ≡ one_image 4
+pub unknown-4 : (most work : ℕ) (image : List ℕ) → of_image None most work image ≡ one_image 4
 unfolding of_image
 unknown-4 most work image = rw (budgeted-ran {A = VolumeRecord} (disc image) (refuse Unsupported) most, ran-refuse {A = VolumeRecord} (disc image) Unsupported, le-leb 0 most (omega arith))
 
@@ -84,7 +84,7 @@ and-false : (b : Bool) → (b && false) ≡ false
 and-false true = refl
 and-false false = refl
 
-module _ (how : Choice) (most : ℕ) (shelf lengths figures work : List ℕ) where
+module _ (how : Option How) (most : ℕ) (shelf lengths figures work : List ℕ) where
   both : Bool → Surveyed
   both b =
       pick b
@@ -208,19 +208,19 @@ module _ (how : Choice) (most : ℕ) (shelf lengths figures work : List ℕ) whe
 
 -- ---- no images: one place suffices
 
-pub no-images : (how : Choice) (most : ℕ) (shelf figures work : List ℕ) → 80 ≤ length figures
+pub no-images : (how : Option How) (most : ℕ) (shelf figures work : List ℕ) → 80 ≤ length figures
     → surveys how most shelf [] figures work ≡ record { answer = 0; figures = replicate 80 0 ++ drop 80 figures; work = replicate (length work) 0 }
 unfolding surveyed images sum rows row pairs added_to
 no-images how most shelf figures work h = rw (le-leb 0 (length shelf) (omega arith), le-leb 80 (length figures) h)
 
 -- ---- images one by one (RULES 16.11): each surveyed by itself, and their places added up by the second call
 
-pub by_itself : (how : Choice) (most : ℕ) (image figures work : List ℕ) → 160 ≤ length figures
+pub by_itself : (how : Option How) (most : ℕ) (image figures work : List ℕ) → 160 ≤ length figures
     → take 80 (surveys how most image (length image ∷ []) figures work).figures ≡ row (of_image how most (length work) image)
 unfolding images sum
 by_itself how most image figures work h =
     image-place how most image (length image ∷ []) figures work (omega arith) (omega arith) 0 (omega arith) ∙ ap (λ s. row (of_image how most (length work) s)) (take-length image)
 
-pub one_by_one : (how : Choice) (most work : ℕ) (l : List (List ℕ)) (rest : List ℕ) → 80 ≤ length rest
+pub one_by_one : (how : Option How) (most work : ℕ) (l : List (List ℕ)) (rest : List ℕ) → 80 ≤ length rest
     → totaled (length l) (rows (map (of_image how most work) l) ++ rest) ≡ rows (map (of_image how most work) l) ++ row (all_added (map (of_image how most work) l)) ++ drop 80 rest
 one_by_one how most work l rest h = rw (length-map l (of_image how most work)) at (rows-total (all-wide how most work l) rest h)

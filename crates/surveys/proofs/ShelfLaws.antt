@@ -1,4 +1,5 @@
 -- What the loops over a shelf cite, and the whole call. Assumes nothing.
+use Rattle.std.specs.Prelude.{Option}
 use mathlib.Core.Path.{◌≡◌, refl, ap, sym, ◌∙◌}
 use mathlib.Core.Bool.{Bool, true, false, ◌&&◌}
 use mathlib.Core.List.{List, [], ◌∷◌, ◌++◌, map, append_assoc, append-nil}
@@ -16,21 +17,18 @@ use Rattle.disc.specs.Choice.{pick}
 use Rattle.disc.specs.Refusals.{number}
 use Rattle.disc.specs.declared.refusals.Refusal.TheVariants.{BadShelf}
 use Rattle.disc.proofs.ImageLaws.{split}
-use Rattle.volumes.specs.declared.choices.Choice.{Choice}
 use Rattle.figures.specs.Figures.{Figures, Holds, row, rows, all_added, totaled, total_answer, sum, AllWide}
 use Rattle.figures.proofs.FigureLaws.{holds-long, rows-total, rows-answer}
 use Rattle.surveys.specs.Surveys.{Surveyed, of_image, images, with_total, surveyed, fits, surveys}
 use Rattle.surveys.proofs.ImageLaws.{image-wide}
 use Rattle.figures.specs.Figures.AllWide.{none-wide, more-wide}
+use Rattle.volumes.specs.declared.openings.How.{How}
 
 -- ---- the lengths against the bytes: what is left of both, behind i of them
 
 pub record Fitting (lengths : List ℕ) (bytes left i : ℕ) : Type 0 where
   pub inside : i ≤ length lengths
   pub rest : leb (sum (drop i lengths)) left ≡ leb (sum lengths) bytes
-
-pub fitting-starts : (lengths : List ℕ) (bytes : ℕ) → Fitting lengths bytes bytes 0
-fitting-starts lengths bytes = record { inside = omega arith; rest = refl }
 
 -- one length taken from both
 leb-less : (n m left : ℕ) → n ≤ left → leb m (left - n) ≡ leb (n + m) left
@@ -82,7 +80,7 @@ images-long (n ∷ ns) shelf = ap suc (images-long ns (drop n shelf))
 
 -- ---- the figures of i images are in their places
 
-pub record Placing (how : Choice) (most : ℕ) (shelf lengths before after work₀ work : List ℕ) (at i : ℕ) : Type 0 where
+pub record Placing (how : Option How) (most : ℕ) (shelf lengths before after work₀ work : List ℕ) (at i : ℕ) : Type 0 where
   pub inside : i ≤ length lengths
   pub ends : at ≤ length shelf
   pub room : 80 * length lengths ≤ length before
@@ -91,12 +89,8 @@ pub record Placing (how : Choice) (most : ℕ) (shelf lengths before after work�
   pub front : take (80 * i) after ++ rows (map (of_image how most (length work₀)) (images (drop i lengths) (drop at shelf))) ≡ rows (map (of_image how most (length work₀)) (images lengths shelf))
   pub behind : drop (80 * i) after ≡ drop (80 * i) before
 
-pub placing-starts : (how : Choice) (most : ℕ) (shelf lengths before work : List ℕ) → 80 * length lengths ≤ length before → Placing how most shelf lengths before before work work 0 0
-placing-starts how most shelf lengths before work h =
-    record { inside = omega arith; ends = omega arith; room = h; long = refl; size = refl; front = refl; behind = refl }
-
-module _ {how : Choice} {most : ℕ} {shelf lengths before after work₀ work : List ℕ} {at i : ℕ} (p : Placing how most shelf lengths before after work₀ work at i) where
-  pub placing-room : i < length lengths → 80 * i + 80 ≤ length after
+module _ {how : Option How} {most : ℕ} {shelf lengths before after work₀ work : List ℕ} {at i : ℕ} (p : Placing how most shelf lengths before after work₀ work at i) where
+  placing-room : i < length lengths → 80 * i + 80 ≤ length after
   placing-room h = omega (arith, p.room, p.long)
 
   pub placing-ends : length lengths ≤ i → after ≡ rows (map (of_image how most (length work₀)) (images lengths shelf)) ++ drop (80 * length lengths) before
@@ -108,7 +102,7 @@ module _ {how : Choice} {most : ℕ} {shelf lengths before after work₀ work : 
       sym (take-append-drop (80 * i) after) ∙ rw (f, p.behind, e)
 
   module _ (h : i < length lengths) {n : ℕ} (l : n ≡ min (get_or lengths i 0) (length shelf - at)) where
-    pub image-ends : at + n ≤ length shelf
+    image-ends : at + n ≤ length shelf
     image-ends = omega (arith, p.ends)
 
     left-long : length (drop at shelf) ≡ length shelf - at
@@ -173,7 +167,7 @@ module _ {how : Choice} {most : ℕ} {shelf lengths before after work₀ work : 
 
 -- ---- the whole
 
-pub all-wide : (how : Choice) (most work : ℕ) (l : List (List ℕ)) → AllWide (map (of_image how most work) l)
+pub all-wide : (how : Option How) (most work : ℕ) (l : List (List ℕ)) → AllWide (map (of_image how most work) l)
 all-wide how most work [] = none-wide
 all-wide how most work (image ∷ l) = more-wide (image-wide how most work image) (all-wide how most work l)
 
@@ -189,7 +183,7 @@ rows-one f = append-nil (row f)
 pub rows-with-total : (fs : List Figures) → rows (with_total fs) ≡ rows fs ++ row (all_added fs)
 rows-with-total fs = rows_append fs (all_added fs ∷ []) ∙ rw (rows-one (all_added fs))
 
-module _ (how : Choice) (most : ℕ) (shelf lengths before work : List ℕ) where
+module _ (how : Option How) (most : ℕ) (shelf lengths before work : List ℕ) where
   no-fit : fits shelf lengths before ≡ false → (number BadShelf ≡ (surveys how most shelf lengths before work).answer) × (before ≡ (surveys how most shelf lengths before work).figures)
   no-fit e = (rw e, rw e)
 

@@ -1,5 +1,5 @@
 -- Figures over a shelf of images, one after another: RULES 16.6 to 16.10, and 16.13.
-use Rattle.std.specs.Prelude.{ℕ, ◌+◌, ◌*◌, Bool, ◌&&◌, List, [], ◌∷◌, ◌++◌, map, length, take, drop, replicate, leb}
+use Rattle.std.specs.Prelude.{ℕ, ◌+◌, ◌*◌, Bool, ◌&&◌, List, [], ◌∷◌, ◌++◌, map, length, take, drop, replicate, leb, Option}
 use Rattle.disc.specs.Choice.{pick}
 use Rattle.disc.specs.Refusals.{number}
 use Rattle.disc.specs.Ask.{Disc, Outcome}
@@ -9,10 +9,10 @@ use Rattle.disc.specs.Budgets.{budgeted, left_of}
 use Rattle.disc.specs.Images.{disc}
 use Rattle.disc.specs.declared.refusals.Refusal.TheVariants.{BadShelf}
 use Rattle.volumes.specs.Choices.{opening_by}
-use Rattle.volumes.specs.declared.choices.Choice.{Choice}
 use Rattle.volumes.specs.declared.openings.VolumeRecord.{VolumeRecord}
 use Rattle.figures.specs.Figures.{Figures, one_image, added, all_added, rows, place, sum}
 use Rattle.shows.specs.Tallies.{Tally, tree_tally}
+use Rattle.volumes.specs.declared.openings.How.{How}
 
 -- ---- of an image: where its opening or tree is refused, or it wants more sectors than it is lent, it counts under that number, and all else is 0
 
@@ -29,7 +29,7 @@ abbrev pub volume_of : Disc → ℕ → ℕ → Ran VolumeRecord → Figures
 volume_of d most work r = volume_by d (left_of most r.count) work r.outcome
 
 -- `most` is how many sectors it is lent, and `work` how many bytes of work space there are
-unfoldable pub of_image : Choice → ℕ → ℕ → List ℕ → Figures
+unfoldable pub of_image : Option How → ℕ → ℕ → List ℕ → Figures
 of_image how most work image = volume_of (disc image) most work (ran (disc image) (budgeted most (opening_by how)))
 
 -- ---- of a shelf
@@ -44,7 +44,7 @@ abbrev pub with_total : List Figures → List Figures
 with_total each = each ++ all_added each ∷ []
 
 -- each image is lent `most` sectors anew
-unfoldable pub surveyed : Choice → ℕ → ℕ → List ℕ → List ℕ → List Figures
+unfoldable pub surveyed : Option How → ℕ → ℕ → List ℕ → List ℕ → List Figures
 surveyed how most work lengths shelf = with_total (map (of_image how most work) (images lengths shelf))
 
 -- ---- the call
@@ -59,7 +59,7 @@ pub record Surveyed : Type 0 where
   pub work : List ℕ
 
 -- the call: refusal 15 comes first, and then only the zeros of the work space are written
-abbrev pub surveys : Choice → ℕ → List ℕ → List ℕ → List ℕ → List ℕ → Surveyed
+abbrev pub surveys : Option How → ℕ → List ℕ → List ℕ → List ℕ → List ℕ → Surveyed
 surveys how most shelf lengths figures work =
     pick (fits shelf lengths figures)
     (record {

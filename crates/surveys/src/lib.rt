@@ -20,25 +20,24 @@ ghost use Rattle.surveys.specs.Surveys.{of_image, surveys};
 ghost use Rattle.surveys.specs.Inner.Parts.{EachIn, Surveys};
 
 use disc::answers::{BAD_SHELF, DONE, OVER_BUDGET, UNSUPPORTED};
-use disc::counts::{left_of, lesser};
+use disc::counts::left_of;
 use disc::moves::clear;
 use figures::{PLACE, add_image, clear_figures, total};
 use shows::whole::tally_tree;
-use volumes::choices::Choice;
-use volumes::openings::{Opened, open_volume, refused};
+use volumes::openings::{How, Opened, open_volume, refused};
 
 // Opens an image by its choices; refused by 4 if the number stands for none.
-fn open_by(image: &[u8], how: Choice) -> Opened
+fn open_by(image: &[u8], how: Option<How>) -> Opened
     ensures { result ≡ opened_of (ran (disc image.now) (opening_by how)) }
 {
     match how {
-        Choice::Unknown => refused(UNSUPPORTED, 0),
-        Choice::Known(choices) => open_volume(image, choices),
+        None => refused(UNSUPPORTED, 0),
+        Some(choices) => open_volume(image, choices),
     }
 }
 
 // The same, with a budget of `most` sectors.
-fn open_within(image: &[u8], how: Choice, most: u64) -> Opened
+fn open_within(image: &[u8], how: Option<How>, most: u64) -> Opened
     ensures { result ≡ opened_of (ran (disc image.now) (budgeted most (opening_by how))) }
 {
     let opened = open_by(image, how);
@@ -50,7 +49,7 @@ fn open_within(image: &[u8], how: Choice, most: u64) -> Opened
 
 // Puts the figures of an image into a place. One that is refused, or wants more than `most` sectors for its opening,
 // its tree and the reads of its files, counts under its number and has no other figure.
-fn survey_image(image: &[u8], how: Choice, most: u64, place: &mut [u64], work: &mut [u8])
+fn survey_image(image: &[u8], how: Option<How>, most: u64, place: &mut [u64], work: &mut [u8])
     requires { length place.old ≡ 80 }
     ensures { Holds (of_image how most (length work.old) image.now) place.new }
 {
@@ -73,14 +72,11 @@ fn within(lengths: &[u64], bytes: u64) -> bool
     ensures { result ≡ leb (sum lengths.now) bytes }
 {
     let mut left = bytes;
-    let mut i: usize = 0;
-    while i < lengths.len() {
-        let n = lengths[i];
-        if left < n {
+    for n in lengths {
+        if left < *n {
             return false;
         }
-        left -= n;
-        i += 1;
+        left -= *n;
     }
     true
 }
@@ -90,7 +86,7 @@ fn within(lengths: &[u64], bytes: u64) -> bool
 fn survey_each(
     shelf: &[u8],
     lengths: &[u64],
-    how: Choice,
+    how: Option<How>,
     most: u64,
     figures: &mut [u64],
     work: &mut [u8],
@@ -99,9 +95,8 @@ fn survey_each(
     ensures { EachIn how most (length work.old) shelf.now lengths.now figures.old figures.new }
 {
     let mut at: usize = 0;
-    let mut i: usize = 0;
-    while i < lengths.len() {
-        let n = lesser(lengths[i], (shelf.len() - at) as u64) as usize;
+    for (i, length) in lengths.iter().enumerate() {
+        let n = (*length).min((shelf.len() - at) as u64) as usize;
         let to = PLACE * i;
         survey_image(
             &shelf[at..at + n],
@@ -111,7 +106,6 @@ fn survey_each(
             work,
         );
         at += n;
-        i += 1;
     }
 }
 
@@ -119,7 +113,7 @@ fn survey_each(
 fn survey_all(
     shelf: &[u8],
     lengths: &[u64],
-    how: Choice,
+    how: Option<How>,
     most: u64,
     figures: &mut [u64],
     work: &mut [u8],
@@ -143,7 +137,7 @@ fn survey_all(
 pub fn survey(
     shelf: &[u8],
     lengths: &[u64],
-    how: Choice,
+    how: Option<How>,
     most: u64,
     figures: &mut [u64],
     work: &mut [u8],

@@ -7,7 +7,7 @@
 
 ghost use Rattle.std.specs.Prelude.{◌≡◌};
 ghost use Rattle.figures.specs.Figures.{total_answer, totaled};
-ghost use Rattle.volumes.specs.Choices.{how_of, choice_of};
+ghost use Rattle.volumes.specs.Choices.{how_of};
 ghost use Rattle.surveys.specs.Surveys.{surveys};
 
 use figures::{PLACE, total};
@@ -70,7 +70,7 @@ pub extern "C" fn vault_survey(
     figures: &mut [u64],
     work: &mut [u8],
 ) -> u64
-    ensures { record { answer = result; figures = figures.new; work = work.new } ≡ surveys (choice_of (how_of how)) most shelf.now lengths.now figures.old work.old }
+    ensures { record { answer = result; figures = figures.new; work = work.new } ≡ surveys (how_of how) most shelf.now lengths.now figures.old work.old }
 {
     survey(shelf, lengths, chosen(how), most, figures, work)
 }

@@ -1,83 +1,68 @@
 // extent_ad, short_ad, lb_addr, long_ad, ext_ad and the header of an allocation extent.
-use crate::outputs::{answered, refused};
-use disc::answers::DONE;
-use programs::words::{end_line, number, number8, say};
-use records::allocations::{
-    ExtAd, ExtRead, ExtentAd, ExtentRead, LbAddr, LbAddrRead, LongAd, LongRead, ShortAd, ShortRead,
-};
-use tags::{AedRead, AllocationExtentDescriptor, DescriptorTag};
+use crate::outputs::refused;
+use disc::refusals::Refusal;
+use records::allocations::{ExtAd, ExtentAd, LbAddr, LongAd, ShortAd};
+use std::io;
+use tags::{AllocationExtentDescriptor, DescriptorTag};
 
-fn show_extent(r: ExtentRead) {
-    say(b"extent_ad");
+fn show_extent(rt: &impl Print, r: Result<ExtentAd, Refusal>) -> io::Result<()> {
+    print!(rt; "extent_ad")?;
     match r {
-        ExtentRead::Refused(why) => refused(why),
-        ExtentRead::Read(a) => {
-            number(a.length as u64);
-            number(a.location as u64);
-            end_line();
+        Err(why) => refused(rt, why),
+        Ok(a) => println!(rt; " {} {}", a.length, a.location),
+    }
+}
+
+fn show_short(rt: &impl Print, r: Result<ShortAd, Refusal>) -> io::Result<()> {
+    print!(rt; "short_ad")?;
+    match r {
+        Err(why) => refused(rt, why),
+        Ok(a) => println!(rt; " {} {} {}", a.length, a.extent_type, a.block_location),
+    }
+}
+
+fn show_address(rt: &impl Print, a: LbAddr) -> io::Result<()> {
+    print!(rt; " {} {}", a.block, a.partition_ref)
+}
+
+fn show_lb_addr(rt: &impl Print, r: Result<LbAddr, Refusal>) -> io::Result<()> {
+    print!(rt; "lb_addr")?;
+    match r {
+        Err(why) => refused(rt, why),
+        Ok(a) => {
+            show_address(rt, a)?;
+            println!(rt)
         }
     }
 }
 
-fn show_short(r: ShortRead) {
-    say(b"short_ad");
+fn show_long(rt: &impl Print, r: Result<LongAd, Refusal>) -> io::Result<()> {
+    print!(rt; "long_ad")?;
     match r {
-        ShortRead::Refused(why) => refused(why),
-        ShortRead::Read(a) => {
-            number(a.length as u64);
-            number(a.extent_type as u64);
-            number(a.block_location as u64);
-            end_line();
+        Err(why) => refused(rt, why),
+        Ok(a) => {
+            let used = a.implementation_use;
+            print!(rt; " {} {}", a.length, a.extent_type)?;
+            show_address(rt, a.location)?;
+            println!(rt; " {} {}", used[0], used[5])
         }
     }
 }
 
-fn show_address(a: LbAddr) {
-    number(a.block as u64);
-    number(a.partition_ref as u64);
-}
-
-fn show_lb_addr(r: LbAddrRead) {
-    say(b"lb_addr");
+fn show_ext(rt: &impl Print, r: Result<ExtAd, Refusal>) -> io::Result<()> {
+    print!(rt; "ext_ad")?;
     match r {
-        LbAddrRead::Refused(why) => refused(why),
-        LbAddrRead::Read(a) => {
-            show_address(a);
-            end_line();
+        Err(why) => refused(rt, why),
+        Ok(a) => {
+            let used = a.implementation_use;
+            print!(rt;
+                " {} {} {} {}",
+                a.length, a.extent_type, a.recorded_length, a.information_length
+            )?;
+            show_address(rt, a.location)?;
+            println!(rt; " {} {}", used[0], used[1])
         }
     }
-}
-
-fn show_long(r: LongRead) {
-    say(b"long_ad");
-    if r.answer != DONE {
-        answered(r.answer);
-        return;
-    }
-    let a = r.ad;
-    number(a.length as u64);
-    number(a.extent_type as u64);
-    show_address(a.location);
-    number8(a.implementation_use[0]);
-    number8(a.implementation_use[5]);
-    end_line();
-}
-
-fn show_ext(r: ExtRead) {
-    say(b"ext_ad");
-    if r.answer != DONE {
-        answered(r.answer);
-        return;
-    }
-    let a = r.ad;
-    number(a.length as u64);
-    number(a.extent_type as u64);
-    number(a.recorded_length as u64);
-    number(a.information_length as u64);
-    show_address(a.location);
-    number8(a.implementation_use[0]);
-    number8(a.implementation_use[1]);
-    end_line();
 }
 
 // Twenty-four bytes, all different; the raw length in front has type 2.
@@ -88,35 +73,35 @@ fn some_bytes() -> [u8; 24] {
     ]
 }
 
-fn block_sizes() {
+fn block_sizes(rt: &impl Print) -> io::Result<()> {
     let s = some_bytes();
-    show_extent(ExtentAd::parse(&s[0..7]));
-    show_extent(ExtentAd::parse(&s[0..8]));
-    show_short(ShortAd::parse(&s[0..7]));
-    show_short(ShortAd::parse(&s[0..8]));
+    show_extent(rt, ExtentAd::parse(&s[0..7]))?;
+    show_extent(rt, ExtentAd::parse(&s[0..8]))?;
+    show_short(rt, ShortAd::parse(&s[0..7]))?;
+    show_short(rt, ShortAd::parse(&s[0..8]))
 }
 
-fn address_sizes() {
+fn address_sizes(rt: &impl Print) -> io::Result<()> {
     let s = some_bytes();
-    show_lb_addr(LbAddr::parse(&s[0..5]));
-    show_lb_addr(LbAddr::parse(&s[0..6]));
-    show_long(LongAd::parse(&s[0..15]));
-    show_long(LongAd::parse(&s[0..16]));
+    show_lb_addr(rt, LbAddr::parse(&s[0..5]))?;
+    show_lb_addr(rt, LbAddr::parse(&s[0..6]))?;
+    show_long(rt, LongAd::parse(&s[0..15]))?;
+    show_long(rt, LongAd::parse(&s[0..16]))
 }
 
-fn ext_sizes() {
+fn ext_sizes(rt: &impl Print) -> io::Result<()> {
     let s = some_bytes();
-    show_ext(ExtAd::parse(&s[0..19]));
-    show_ext(ExtAd::parse(&s[0..20]));
+    show_ext(rt, ExtAd::parse(&s[0..19]))?;
+    show_ext(rt, ExtAd::parse(&s[0..20]))
 }
 
 // Each record one byte short, and whole; then case 6 of the worked table.
-pub(crate) fn sizes() {
-    block_sizes();
-    address_sizes();
-    ext_sizes();
+pub(crate) fn sizes(rt: &impl Print) -> io::Result<()> {
+    block_sizes(rt)?;
+    address_sizes(rt)?;
+    ext_sizes(rt)?;
     let case_6 = [0x00u8, 0x08, 0x00, 0x40, 0x05, 0x00, 0x00, 0x00];
-    show_short(ShortAd::parse(&case_6));
+    show_short(rt, ShortAd::parse(&case_6))
 }
 
 fn header_with(id: u16) -> AllocationExtentDescriptor {
@@ -134,46 +119,46 @@ fn header_with(id: u16) -> AllocationExtentDescriptor {
     }
 }
 
-fn show_header(r: AedRead) {
-    say(b"header");
+fn show_header(rt: &impl Print, r: Result<AllocationExtentDescriptor, Refusal>) -> io::Result<()> {
+    print!(rt; "header")?;
     match r {
-        AedRead::NoHeader(why) => refused(why),
-        AedRead::Header(a) => {
-            number(a.tag.id as u64);
-            number(a.tag.location as u64);
-            number(a.previous_allocation_extent_location as u64);
-            number(a.length_of_allocation_descriptors as u64);
-            end_line();
-        }
+        Err(why) => refused(rt, why),
+        Ok(a) => println!(rt;
+            " {} {} {} {}",
+            a.tag.id,
+            a.tag.location,
+            a.previous_allocation_extent_location,
+            a.length_of_allocation_descriptors
+        ),
     }
 }
 
-fn bad_header() {
+fn bad_header(rt: &impl Print) -> io::Result<()> {
     let mut bytes = header_with(258).encode();
     bytes[4] = 0;
-    show_header(AllocationExtentDescriptor::parse(false, &bytes));
+    show_header(rt, AllocationExtentDescriptor::parse(false, &bytes))
 }
 
 // A header of 24 bytes, one byte short, with other ids, and with a bad checksum.
-pub(crate) fn headers() {
+pub(crate) fn headers(rt: &impl Print) -> io::Result<()> {
     let good = header_with(258).encode();
-    show_header(AllocationExtentDescriptor::parse(false, &good));
-    show_header(AllocationExtentDescriptor::parse(false, &good[0..23]));
+    show_header(rt, AllocationExtentDescriptor::parse(false, &good))?;
+    show_header(rt, AllocationExtentDescriptor::parse(false, &good[0..23]))?;
     let other = header_with(257).encode();
-    show_header(AllocationExtentDescriptor::parse(false, &other));
+    show_header(rt, AllocationExtentDescriptor::parse(false, &other))?;
     let unlisted = header_with(267).encode();
-    show_header(AllocationExtentDescriptor::parse(false, &unlisted));
-    bad_header();
+    show_header(rt, AllocationExtentDescriptor::parse(false, &unlisted))?;
+    bad_header(rt)
 }
 
 // What encoding keeps: 30 bits of a length and of a recorded length, 2 bits of a type.
-pub(crate) fn kept() {
+pub(crate) fn kept(rt: &impl Print) -> io::Result<()> {
     let short = ShortAd {
         length: 0xc000_0801,
         extent_type: 7,
         block_location: 9,
     };
-    show_short(ShortAd::parse(&short.encode()));
+    show_short(rt, ShortAd::parse(&short.encode()))?;
     let ext = ExtAd {
         length: 0xffff_ffff,
         extent_type: 4,
@@ -185,5 +170,5 @@ pub(crate) fn kept() {
         },
         implementation_use: [12, 13],
     };
-    show_ext(ExtAd::parse(&ext.encode()));
+    show_ext(rt, ExtAd::parse(&ext.encode()))
 }

@@ -1,26 +1,23 @@
 // Tags: the ids at the ends of the ranges, every length, every refusal, every change of one byte, and the place check.
-ghost use Rattle.std.specs.Prelude.{◌+◌, ◌≤◌, ◌<◌};
+ghost use Rattle.std.specs.Prelude.{◌≤◌, ◌<◌};
 
-use crate::outputs::{refused, yes_or_no};
+use crate::outputs::refused;
 use disc::places::{Block, Sector};
-use programs::words::{end_line, number, say};
-use tags::{DescriptorTag, TagRead};
+use disc::refusals::Refusal;
+use std::io;
+use tags::DescriptorTag;
 
-fn show(t: DescriptorTag) {
-    say(b": read");
-    number(t.id as u64);
-    number(t.descriptor_version as u64);
-    number(t.serial_number as u64);
-    number(t.crc as u64);
-    number(t.crc_length as u64);
-    number(t.location as u64);
-    end_line();
+fn show(rt: &impl Print, t: DescriptorTag) -> io::Result<()> {
+    println!(rt;
+        ": read {} {} {} {} {} {}",
+        t.id, t.descriptor_version, t.serial_number, t.crc, t.crc_length, t.location
+    )
 }
 
-fn answer(r: TagRead) {
+fn answer(rt: &impl Print, r: Result<DescriptorTag, Refusal>) -> io::Result<()> {
     match r {
-        TagRead::Read(t) => show(t),
-        TagRead::Refused(why) => refused(why),
+        Ok(t) => show(rt, t),
+        Err(why) => refused(rt, why),
     }
 }
 
@@ -41,150 +38,98 @@ fn case_1() -> [u8; 16] {
 }
 
 // A tag with this id and the right checksum.
-fn id(n: u16) {
-    say(b"id");
-    number(n as u64);
+fn id(rt: &impl Print, n: u16) -> io::Result<()> {
+    print!(rt; "id {n}")?;
     let bytes = tag_with(n, 513, 1027, 1541).encode();
-    answer(DescriptorTag::parse(&bytes));
+    answer(rt, DescriptorTag::parse(&bytes))
 }
 
-pub(crate) fn ids() {
-    id(0);
-    id(1);
-    id(9);
-    id(10);
-    id(255);
-    id(256);
-    id(266);
-    id(267);
-    id(65535);
-}
-
-// The first n bytes of case 1.
-fn front(n: usize)
-    requires { n ≤ 16 }
-{
-    say(b"length");
-    number(n as u64);
-    let bytes = case_1();
-    answer(DescriptorTag::parse(&bytes[0..n]));
-}
-
-pub(crate) fn lengths() {
-    let mut n = 0;
-    while n < 17 {
-        front(n);
-        n += 1;
+pub(crate) fn ids(rt: &impl Print) -> io::Result<()> {
+    for n in [0, 1, 9, 10, 255, 256, 266, 267, 65535] {
+        id(rt, n)?;
     }
+    Ok(())
+}
+
+// The first bytes of case 1.
+pub(crate) fn lengths(rt: &impl Print) -> io::Result<()> {
+    let bytes = case_1();
+    for n in 0..=bytes.len() {
+        print!(rt; "length {n}")?;
+        answer(rt, DescriptorTag::parse(&bytes[..n]))?;
+    }
+    Ok(())
 }
 
 // Case 1 with this reserved byte and this checksum. Each of the two checks fails alone once.
-fn checked(reserved: u8, checksum: u8) {
+fn checked(rt: &impl Print, reserved: u8, checksum: u8) -> io::Result<()> {
     let mut bytes = case_1();
     bytes[4] = checksum;
     bytes[5] = reserved;
-    say(b"reserved");
-    number(reserved as u64);
-    say(b" checksum");
-    number(checksum as u64);
-    answer(DescriptorTag::parse(&bytes));
+    print!(rt; "reserved {reserved} checksum {checksum}")?;
+    answer(rt, DescriptorTag::parse(&bytes))
 }
 
-pub(crate) fn checks() {
-    checked(0, 6);
-    checked(0, 7);
-    checked(1, 6);
-    checked(1, 7);
-    let zeros = [0u8; 16];
-    say(b"sixteen zeros");
-    answer(DescriptorTag::parse(&zeros));
+pub(crate) fn checks(rt: &impl Print) -> io::Result<()> {
+    checked(rt, 0, 6)?;
+    checked(rt, 0, 7)?;
+    checked(rt, 1, 6)?;
+    checked(rt, 1, 7)?;
+    print!(rt; "sixteen zeros")?;
+    answer(rt, DescriptorTag::parse(&[0; 16]))
 }
 
-fn is_refused(r: TagRead) -> u64
-    ensures { result ≤ 1 }
-{
+fn is_refused(r: Result<DescriptorTag, Refusal>) -> bool {
     match r {
-        TagRead::Read(_) => 0,
-        TagRead::Refused(_) => 1,
+        Ok(_) => false,
+        Err(_) => true,
     }
 }
 
-fn add_byte(a: u8, b: u8) -> u8 {
-    ((a as u16 + b as u16) % 256) as u8
-}
-
-fn changed(at: usize, by: u8) -> u64
+fn is_refused_changed(at: usize, by: u8) -> bool
     requires { at < 16 }
-    ensures { result ≤ 1 }
 {
     let mut bytes = case_1();
-    bytes[at] = add_byte(bytes[at], by);
+    bytes[at] = bytes[at].wrapping_add(by);
     is_refused(DescriptorTag::parse(&bytes))
 }
 
 // How many of the 255 other values of a byte are refused.
-fn changes_at(at: usize) -> u64
+fn changes_at(at: usize) -> usize
     requires { at < 16 }
 {
-    let mut refusals: u64 = 0;
-    let mut by: u8 = 255;
-    while 0 < by {
-        refusals += changed(at, by);
-        by -= 1;
+    (1..=255u8).filter(|by| is_refused_changed(at, *by)).count()
+}
+
+pub(crate) fn changes(rt: &impl Print) -> io::Result<()> {
+    for at in 0..16 {
+        println!(rt; "changes of byte {at} refused: {}", changes_at(at))?;
     }
-    refusals
+    Ok(())
 }
 
-fn show_changes(at: usize)
-    requires { at < 16 }
-{
-    say(b"changes of byte");
-    number(at as u64);
-    say(b" refused:");
-    number(changes_at(at));
-    end_line();
-}
-
-pub(crate) fn changes() {
-    let mut at = 0;
-    while at < 16 {
-        show_changes(at);
-        at += 1;
-    }
-}
-
-fn placed(id: u16, sector: u64, block: u32) {
-    say(b"id");
-    number(id as u64);
-    say(b" location 256 at sector");
-    number(sector);
-    say(b" block");
-    number(block as u64);
-    say(b":");
-    yes_or_no(tag_with(id, 0, 0, 0).is_in_place(Sector(sector), Block(block)));
-    end_line();
+fn placed(rt: &impl Print, id: u16, sector: u64, block: u32) -> io::Result<()> {
+    let is_there = tag_with(id, 0, 0, 0).is_in_place(Sector(sector), Block(block));
+    let said = if is_there { "yes" } else { "no" };
+    println!(rt; "id {id} location 256 at sector {sector} block {block}: {said}")
 }
 
 // The sector's number is equal, the block's, both, neither; then numbers that are equal in their low 16 bits, and a
 // sector's in its low 32: it can pass 2^32, and a location can't.
-fn places_of(id: u16) {
-    placed(id, 256, 7);
-    placed(id, 7, 256);
-    placed(id, 256, 256);
-    placed(id, 255, 257);
-    placed(id, 65792, 7);
-    placed(id, 7, 65792);
-    placed(id, 4294967552, 7);
+fn places_of(rt: &impl Print, id: u16) -> io::Result<()> {
+    placed(rt, id, 256, 7)?;
+    placed(rt, id, 7, 256)?;
+    placed(rt, id, 256, 256)?;
+    placed(rt, id, 255, 257)?;
+    placed(rt, id, 65792, 7)?;
+    placed(rt, id, 7, 65792)?;
+    placed(rt, id, 4294967552, 7)
 }
 
 // The ids at the ends of the ranges.
-pub(crate) fn places() {
-    places_of(0);
-    places_of(1);
-    places_of(9);
-    places_of(10);
-    places_of(255);
-    places_of(256);
-    places_of(266);
-    places_of(267);
+pub(crate) fn places(rt: &impl Print) -> io::Result<()> {
+    for id in [0, 1, 9, 10, 255, 256, 266, 267] {
+        places_of(rt, id)?;
+    }
+    Ok(())
 }

@@ -2,16 +2,16 @@
 #![tactic(auto)]
 
 use disc::refusals::Refusal;
-use programs::words::{end_line, number, say, say_decimal, say_named};
-use tags::{DescriptorTag, TagRead};
+use programs::words::{end_line, number16, number32, say_decimal, say_named, say_text};
+use tags::DescriptorTag;
 
 fn show(t: DescriptorTag) {
-    say_decimal(t.id as u64);
-    number(t.descriptor_version as u64);
-    number(t.serial_number as u64);
-    number(t.crc as u64);
-    number(t.crc_length as u64);
-    number(t.location as u64);
+    say_decimal(u64::from(t.id));
+    number16(t.descriptor_version);
+    number16(t.serial_number);
+    number16(t.crc);
+    number16(t.crc_length);
+    number32(t.location);
     end_line();
 }
 
@@ -20,16 +20,17 @@ fn refuse(why: Refusal) {
     end_line();
 }
 
-fn answer(r: TagRead) {
+fn answer(r: Result<DescriptorTag, Refusal>) {
     match r {
-        TagRead::Read(t) => show(t),
-        TagRead::Refused(why) => refuse(why),
+        Ok(t) => show(t),
+        Err(why) => refuse(why),
     }
 }
 
 fn main() {
     let mut input = [0u8; 2048];
     let n = io::read_full(0, &mut input);
-    say(b"id version serial crc crclen location\n");
+    say_text(b"id", b" version serial crc crclen location");
+    end_line();
     answer(DescriptorTag::parse(&input[..n]));
 }

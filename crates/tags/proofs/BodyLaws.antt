@@ -1,4 +1,5 @@
 -- The body check: the returns of `has_right_body`, what the check sees, and the gate as a mark of a call whose bodies are checked. Assumes nothing.
+use Rattle.std.specs.Prelude.{Result, Ok, Err}
 use Prim.Native.Nat.{ℕ, ◌+◌, ◌-◌, ◌≤◌, ◌<◌}
 use mathlib.Core.Path.{◌≡◌, refl, ap, sym, ◌∙◌}
 use mathlib.Core.Bool.{Bool, true, false, ◌&&◌, and-eq-true_iff}
@@ -17,8 +18,6 @@ use Rattle.crcs.specs.Crcs.{crc_of}
 use Rattle.crcs.proofs.Promises.{crc-pair}
 use Rattle.tags.specs.Tags.{accepted, tag_of, read_tag, body_right, with_body, with_id, read_head}
 use Rattle.tags.specs.declared.DescriptorTag.{DescriptorTag}
-use Rattle.tags.specs.declared.TagRead.{TagRead}
-use Rattle.tags.specs.declared.TagRead.TheVariants.{Read, Refused}
 use Rattle.disc.specs.Parts.{Bytes}
 use Rattle.disc.specs.Marks.{Guards}
 use Rattle.tags.specs.Heads.{right_at}
@@ -55,27 +54,27 @@ module _ (t : DescriptorTag) where
 -- ---- the gate in a call
 
 -- a call that goes on behind the gate: with bodies checked it is the call without, with the descriptor marked where its tag is accepted
-module _ {A : Type 0} (s : List ℕ) (id size : ℕ) (f g : TagRead → Ask A) (p : (r : Refusal) → f (Refused r) ≡ refuse r) (q : (r : Refusal) → g (Refused r) ≡ refuse r) where
-  refused-guards : Guards right_at (f (Refused Malformed)) (g (Refused Malformed))
+module _ {A : Type 0} (s : List ℕ) (id size : ℕ) (f g : Result DescriptorTag Refusal → Ask A) (p : (r : Refusal) → f (Err r) ≡ refuse r) (q : (r : Refusal) → g (Err r) ≡ refuse r) where
+  refused-guards : Guards right_at (f (Err Malformed)) (g (Err Malformed))
   refused-guards = rw (p Malformed, q Malformed) (refuse-guards Malformed (λ e. omega arith))
 
-  pub gate-guards : ((t : DescriptorTag) → Guards right_at (f (Read t)) (g (Read t))) → Guards right_at (f (read_head true s id size)) (g (read_head false s id size))
+  pub gate-guards : ((t : DescriptorTag) → Guards right_at (f (Ok t)) (g (Ok t))) → Guards right_at (f (read_head true s id size)) (g (read_head false s id size))
   unfolding read_head with_body with_id
   gate-guards h = long (leb size (length s))
     where
-      same : (b : Bool) (t : DescriptorTag) → Guards right_at (f (pick b (Read t) (Refused Malformed))) (g (pick b (Read t) (Refused Malformed)))
+      same : (b : Bool) (t : DescriptorTag) → Guards right_at (f (pick b (Ok t) (Err Malformed))) (g (pick b (Ok t) (Err Malformed)))
       same true t = h t
       same false t = refused-guards
 
-      body : (b : Bool) (t : DescriptorTag) → pick b (f (with_id id (Read t))) (refuse BadCrc) ≡ f (with_id id (pick b (Read t) (Refused BadCrc)))
+      body : (b : Bool) (t : DescriptorTag) → pick b (f (with_id id (Ok t))) (refuse BadCrc) ≡ f (with_id id (pick b (Ok t) (Err BadCrc)))
       body true t = refl
       body false t = sym (p BadCrc)
 
-      tagged : (a : Bool) → Guards right_at (f (with_id id (with_body true s (pick a (Read (tag_of s)) (Refused Malformed))))) (g (with_id id (with_body false s (pick a (Read (tag_of s)) (Refused Malformed)))))
+      tagged : (a : Bool) → Guards right_at (f (with_id id (with_body true s (pick a (Ok (tag_of s)) (Err Malformed))))) (g (with_id id (with_body false s (pick a (Ok (tag_of s)) (Err Malformed)))))
       tagged true = rw (← body (right_at s) (tag_of s)) (parse-guards s (same (eqb (tag_of s).id id) (tag_of s)))
       tagged false = refused-guards
 
       long : (a : Bool)
-          → Guards right_at (f (pick a (with_id id (with_body true s (read_tag s))) (Refused Malformed))) (g (pick a (with_id id (with_body false s (read_tag s))) (Refused Malformed)))
+          → Guards right_at (f (pick a (with_id id (with_body true s (read_tag s))) (Err Malformed))) (g (pick a (with_id id (with_body false s (read_tag s))) (Err Malformed)))
       long true = tagged (leb 16 (length s) && accepted s)
       long false = refused-guards

@@ -1,15 +1,14 @@
 -- The place check: the returns of `is_in_place`, and what it comes to for a tag that the crossing places. Assumes nothing.
+use Rattle.std.specs.Prelude.{Option, Some, None}
 use Prim.Native.Nat.{ℕ, ◌+◌, ◌≤◌, ◌<◌}
 use mathlib.Core.Path.{◌≡◌, refl, sym, ◌∙◌}
 use mathlib.Core.Bool.{Bool, true, false, ◌&&◌}
 use mathlib.Core.Logic.{◌⊎◌, inl, inr}
-use mathlib.Core.Option.{Option, none, some}
 use native.Mathlib.Omega.{arith}
 use lib.Dec.{eqb, leb}
 use borrow.Author.Tests.{eq-eqb, eqb-true, le-leb, lt-leb}
 use Rattle.disc.specs.Places.{sector_of, start_for, icb_start, crossing, placed, icb_placed}
 use Rattle.disc.specs.declared.places.Mount.{Mount}
-use Rattle.disc.specs.declared.places.PartitionRef.TheVariants.{Unnamed, Named}
 use Rattle.tags.specs.Tags.{of_partition, place_of, in_place}
 use Rattle.tags.specs.declared.DescriptorTag.{DescriptorTag}
 use Rattle.tags.specs.Heads.{Crossed}
@@ -70,24 +69,24 @@ module _ (m : Mount) (t : DescriptorTag) (block : ℕ) where
         of_other = λ o. ((λ p. sector-only t sector block o p ∙ e), (λ p. sector-enough t sector block o (p ∙ sym e)));
       }
 
-  crossed-by : (o : Option ℕ) {start sector : ℕ} → o ≡ some start → crossing block o ≡ some sector → sector ≡ start + block
-  crossed-by none f e = absurd (let z : ◌≡◌ {A = ℕ} 0 1 = cc in omega arith)
-  crossed-by (some s) {start} {sector} f e = let p : s ≡ start = cc in let q : sector ≡ s + block = cc in q ∙ rw p
+  crossed-by : (o : Option ℕ) {start sector : ℕ} → o ≡ Some start → crossing block o ≡ Some sector → sector ≡ start + block
+  crossed-by None f e = absurd (let z : ◌≡◌ {A = ℕ} 0 1 = cc in omega arith)
+  crossed-by (Some s) {start} {sector} f e = let p : s ≡ start = cc in let q : sector ≡ s + block = cc in q ∙ rw p
 
   -- where a descriptor names no partition, that of its entry
-  pub unnamed-crossed : {sector : ℕ} → placed m Unnamed block ≡ some sector → Crossed m.start t block sector
+  pub unnamed-crossed : {sector : ℕ} → placed m None block ≡ Some sector → Crossed m.start t block sector
   unfolding placed
   unnamed-crossed {sector} e = crossed-at (by e)
     where
-      by : some (sector_of m.start block) ≡ some sector → sector ≡ m.start + block
+      by : Some (sector_of m.start block) ≡ Some sector → sector ≡ m.start + block
       by q = cc
 
   -- under the reference that it gives
-  pub placed-crossed : (p : ℕ) {start sector : ℕ} → start_for m p ≡ some start → placed m (Named p) block ≡ some sector → Crossed start t block sector
+  pub placed-crossed : (p : ℕ) {start sector : ℕ} → start_for m p ≡ Some start → placed m (Some p) block ≡ Some sector → Crossed start t block sector
   unfolding placed
   placed-crossed p f e = crossed-at (crossed-by (start_for m p) f e)
 
   -- and of an ICB
-  pub icb-crossed : (p : ℕ) {start sector : ℕ} → icb_start m p ≡ some start → icb_placed m p block ≡ some sector → Crossed start t block sector
+  pub icb-crossed : (p : ℕ) {start sector : ℕ} → icb_start m p ≡ Some start → icb_placed m p block ≡ Some sector → Crossed start t block sector
   unfolding icb_placed
   icb-crossed p f e = crossed-at (crossed-by (icb_start m p) f e)

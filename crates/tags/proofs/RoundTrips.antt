@@ -1,6 +1,7 @@
 -- Encoding what was read gives the same bytes, and reading what was encoded gives the same record, with the exceptions: an id that is not
 -- listed, and a header with another id than 258.
 -- Assumes nothing.
+use Rattle.std.specs.Prelude.{Result, Ok, Err}
 use Prim.Native.Nat.{ℕ, ◌≤◌}
 use mathlib.Core.Path.{◌≡◌, refl, ap, ap₂, sym, ◌∙◌}
 use mathlib.Core.Bool.{Bool, true, false, ◌&&◌, and-eq-true_iff}
@@ -15,21 +16,19 @@ use Rattle.records.specs.Bytes.{byte, u16at, le32}
 use Rattle.tags.specs.Tags.{listed, checksum, accepted, tag_of, read_tag, tag_bytes, encode_tag, with_body, with_id, read_head, aed_after, read_aed, encode_aed}
 use Rattle.tags.specs.Values.{TagValue, AedValue}
 use Rattle.tags.specs.declared.DescriptorTag.{DescriptorTag}
-use Rattle.tags.specs.declared.TagRead.{TagRead}
-use Rattle.tags.specs.declared.TagRead.TheVariants.{Read, Refused}
 use Rattle.tags.specs.declared.AllocationExtentDescriptor.{AllocationExtentDescriptor}
-use Rattle.tags.specs.declared.AedRead.TheVariants.{Header, NoHeader}
 use Rattle.tags.proofs.HeadLaws.{head_read, aed-read}
 use Rattle.records.proofs.Numbers.{u16-le16, u32-le32, le16-u16, le32-u32, from, from-take}
 use Rattle.disc.specs.Parts.{Bytes}
 use Rattle.tags.specs.Heads.{written}
+use Rattle.disc.specs.declared.refusals.Refusal.{Refusal}
 
 -- ---- tag
 
 -- a tag that was read: there were 16 bytes, they were accepted, and it is theirs
-pub read_only : (s : List ℕ) (t : DescriptorTag) → read_tag s ≡ Read t → (16 ≤ length s) × (accepted s ≡ true) × (tag_of s ≡ t)
+pub read_only : (s : List ℕ) (t : DescriptorTag) → read_tag s ≡ Ok t → (16 ≤ length s) × (accepted s ≡ true) × (tag_of s ≡ t)
 read_only s t e =
-    let p = picked (λ a. a ≡ Read t) (leb 16 (length s) && accepted s) (Read (tag_of s)) (Refused Malformed) e (λ f. let z : ◌≡◌ {A = ℕ} 0 1 = cc in omega arith) in
+    let p = picked (λ a. a ≡ Ok t) (leb 16 (length s) && accepted s) (Ok (tag_of s)) (Err Malformed) e (λ f. let z : ◌≡◌ {A = ℕ} 0 1 = cc in omega arith) in
     let q = (and-eq-true_iff (leb 16 (length s)) (accepted s)).0 p.0 in
     let r : tag_of s ≡ t = cc in
     (leb-true 16 (length s) q.0, q.1, r)
@@ -46,8 +45,8 @@ module _ (t : DescriptorTag) (rest : List ℕ) (h : TagValue t) where
       both true = refl
       both false = refl
 
-  pub tag-again : listed t.id ≡ true → read_tag (written t rest) ≡ Read t
-  tag-again l = simp (le-leb 16 (length (written t rest)) (omega arith), written-accepted, l) (ap Read same)
+  pub tag-again : listed t.id ≡ true → read_tag (written t rest) ≡ Ok t
+  tag-again l = simp (le-leb 16 (length (written t rest)) (omega arith), written-accepted, l) (ap Ok same)
     where
       same : tag_of (written t rest) ≡ t
       same = λ i.
@@ -61,7 +60,7 @@ module _ (t : DescriptorTag) (rest : List ℕ) (h : TagValue t) where
           }
 
   -- one that reading can't give isn't read back
-  pub tag-unlisted : listed t.id ≡ false → read_tag (written t rest) ≡ Refused Malformed
+  pub tag-unlisted : listed t.id ≡ false → read_tag (written t rest) ≡ Err Malformed
   tag-unlisted l = simp (le-leb 16 (length (written t rest)) (omega arith), written-accepted, l)
 
 tag-bytes-back : (s : List ℕ) → Bytes s → accepted s ≡ true → encode_tag (tag_of s) ≡ from s 0 16
@@ -83,7 +82,7 @@ tag-bytes-back s h e =
     reserved : byte s 5 ≡ 0
     reserved = eqb-true _ _ ((and-eq-true_iff (listed (u16at s 0)) _).0 parts.0).1
 
-pub tag_back : (s : List ℕ) → Bytes s → (t : DescriptorTag) → read_tag s ≡ Read t → encode_tag t ≡ take 16 s
+pub tag_back : (s : List ℕ) → Bytes s → (t : DescriptorTag) → read_tag s ≡ Ok t → encode_tag t ≡ take 16 s
 tag_back s h t e =
     let r = read_only s t e in
     ap encode_tag (sym r.2) ∙ tag-bytes-back s h r.1 ∙ from-take s 16 r.0
@@ -95,33 +94,33 @@ module _ (a : AllocationExtentDescriptor) (h : AedValue a) where
   numbers = le32 a.previous_allocation_extent_location ++ le32 a.length_of_allocation_descriptors
 
   -- by what its tag is read as
-  by-tag : {r : TagRead} → read_tag (encode_aed a) ≡ r → read_aed false (encode_aed a) ≡ aed_after (encode_aed a) (with_id 258 r)
+  by-tag : {r : Result DescriptorTag Refusal} → read_tag (encode_aed a) ≡ r → read_aed false (encode_aed a) ≡ aed_after (encode_aed a) (with_id 258 r)
   unfolding read_aed read_head with_body
-  by-tag {r} e = ap (λ (x : TagRead). aed_after (encode_aed a) (with_id 258 (with_body false (encode_aed a) x))) e ∙ ap (λ (x : TagRead). aed_after (encode_aed a) (with_id 258 x)) (unchecked r)
+  by-tag {r} e = ap (λ (x : Result DescriptorTag Refusal). aed_after (encode_aed a) (with_id 258 (with_body false (encode_aed a) x))) e ∙ ap (λ (x : Result DescriptorTag Refusal). aed_after (encode_aed a) (with_id 258 x)) (unchecked r)
     where
-      unchecked : (x : TagRead) → with_body false (encode_aed a) x ≡ x
-      unchecked (Read t) = refl
-      unchecked (Refused w) = refl
+      unchecked : (x : Result DescriptorTag Refusal) → with_body false (encode_aed a) x ≡ x
+      unchecked (Ok t) = refl
+      unchecked (Err w) = refl
 
-  pub aed-again : a.tag.id ≡ 258 → read_aed false (encode_aed a) ≡ Header a
+  pub aed-again : a.tag.id ≡ 258 → read_aed false (encode_aed a) ≡ Ok a
   unfolding aed_after with_id
   aed-again e =
       by-tag (tag-again a.tag numbers h.tag (ap listed e)) ∙ simp (eq-eqb a.tag.id 258 e) (λ i.
-      Header (record {
+      Ok (record {
         tag = a.tag;
         previous_allocation_extent_location = u32-le32 a.previous_allocation_extent_location h.previous i;
         length_of_allocation_descriptors = u32-le32 a.length_of_allocation_descriptors h.area i;
       }))
 
-  pub aed-other : (a.tag.id ≡ 258 → ⊥) → read_aed false (encode_aed a) ≡ NoHeader Malformed
+  pub aed-other : (a.tag.id ≡ 258 → ⊥) → read_aed false (encode_aed a) ≡ Err Malformed
   unfolding aed_after with_id
   aed-other n = by (listed a.tag.id) refl
     where
-      by : (b : Bool) → listed a.tag.id ≡ b → read_aed false (encode_aed a) ≡ NoHeader Malformed
+      by : (b : Bool) → listed a.tag.id ≡ b → read_aed false (encode_aed a) ≡ Err Malformed
       by true l = by-tag (tag-again a.tag numbers h.tag l) ∙ simp (ne_eqb a.tag.id 258 n)
       by false l = by-tag (tag-unlisted a.tag numbers h.tag l)
 
-pub aed-back : (check : Bool) (s : List ℕ) → Bytes s → (a : AllocationExtentDescriptor) → read_aed check s ≡ Header a → encode_aed a ≡ take 24 s
+pub aed-back : (check : Bool) (s : List ℕ) → Bytes s → (a : AllocationExtentDescriptor) → read_aed check s ≡ Ok a → encode_aed a ≡ take 24 s
 aed-back check s h a e =
     let q = aed-read check s refl e in
     let p = head_read check s 258 24 q.head in

@@ -1,8 +1,7 @@
 -- What is known of an accepted tag, and of its place.
-use Rattle.std.specs.Prelude.{Bool, true, List, ◌++◌, [], ◌∷◌, ◌≡◌, ◌⊎◌, ℕ, ◌+◌, ◌≤◌, ◌<◌, length, replicate}
+use Rattle.std.specs.Prelude.{Bool, true, List, ◌++◌, [], ◌∷◌, ◌≡◌, ◌⊎◌, ℕ, ◌+◌, ◌≤◌, ◌<◌, length, replicate, Ok}
 use Rattle.tags.specs.Tags.{tag_of, body_right, read_tag, in_place, encode_tag}
 use Rattle.tags.specs.declared.DescriptorTag.{DescriptorTag}
-use Rattle.tags.specs.declared.TagRead.TheVariants.{Read}
 
 -- the descriptor at the front of s has a right body, by its own tag
 abbrev pub right_at : List ℕ → Bool
@@ -11,7 +10,7 @@ right_at s = body_right s (tag_of s)
 -- a descriptor that passed the gate: there are enough bytes, the tag at the front has the id, and where bodies are checked its body is right
 pub record Passed (check : Bool) (s : List ℕ) (id size : ℕ) (t : DescriptorTag) : Type 0 where
   pub long : size ≤ length s
-  pub tag : read_tag s ≡ Read t
+  pub tag : read_tag s ≡ Ok t
   pub body : check ≡ true → body_right s t ≡ true
   pub is : t.id ≡ id
 

@@ -1,5 +1,5 @@
 -- The descriptor tag, 16 bytes (ECMA-167 3/7.2), and the header of an allocation extent, 24 (4/14.5): RULES 3.4 to 3.7, 3.14, 3.15, 3.23, 3.24 and 9.7.
-use Rattle.std.specs.Prelude.{ℕ, ◌+◌, ◌%◌, Bool, ◌&&◌, ◌||◌, List, ◌∷◌, ◌++◌, length, take, drop, leb, eqb}
+use Rattle.std.specs.Prelude.{ℕ, ◌+◌, ◌%◌, Bool, ◌&&◌, ◌||◌, List, ◌∷◌, ◌++◌, length, take, drop, leb, eqb, Result, Ok, Err}
 use Rattle.disc.specs.Choice.{pick}
 use Rattle.disc.specs.Ask.{Outcome}
 use Rattle.disc.specs.Ask.Outcome.{refused}
@@ -7,11 +7,8 @@ use Rattle.disc.specs.declared.refusals.Refusal.TheVariants.{Malformed, BadCrc}
 use Rattle.crcs.specs.Crcs.{crc_of}
 use Rattle.records.specs.Bytes.{byte, u16at, u32at, le16, le32, sum4}
 use Rattle.tags.specs.declared.DescriptorTag.{DescriptorTag}
-use Rattle.tags.specs.declared.TagRead.{TagRead}
-use Rattle.tags.specs.declared.TagRead.TheVariants.{Read, Refused}
 use Rattle.tags.specs.declared.AllocationExtentDescriptor.{AllocationExtentDescriptor}
-use Rattle.tags.specs.declared.AedRead.{AedRead}
-use Rattle.tags.specs.declared.AedRead.TheVariants.{Header, NoHeader}
+use Rattle.disc.specs.declared.refusals.Refusal.{Refusal}
 
 -- ---- the tag
 
@@ -45,8 +42,8 @@ abbrev pub accepted : List ℕ → Bool
 accepted s = listed (u16at s 0) && eqb (byte s 5) 0 && eqb (byte s 4) (checksum s)
 
 -- reading a tag at the front of s
-abbrev pub read_tag : List ℕ → TagRead
-read_tag s = pick (leb 16 (length s) && accepted s) (Read (tag_of s)) (Refused Malformed)
+abbrev pub read_tag : List ℕ → Result DescriptorTag Refusal
+read_tag s = pick (leb 16 (length s) && accepted s) (Ok (tag_of s)) (Err Malformed)
 
 -- a tag's bytes with the checksum k, and with the right one
 abbrev pub tag_bytes : DescriptorTag → ℕ → List ℕ
@@ -77,33 +74,33 @@ body_right s t = leb (16 + t.crc_length) (length s) && eqb (crc_of (take t.crc_l
 -- ---- the gate that every descriptor goes through
 
 -- the tag, unless bodies are checked and its body in s is wrong
-unfoldable pub with_body : Bool → List ℕ → TagRead → TagRead
-with_body check s (Refused r) = Refused r
-with_body check s (Read t) = pick check (pick (body_right s t) (Read t) (Refused BadCrc)) (Read t)
+unfoldable pub with_body : Bool → List ℕ → Result DescriptorTag Refusal → Result DescriptorTag Refusal
+with_body check s (Err r) = Err r
+with_body check s (Ok t) = pick check (pick (body_right s t) (Ok t) (Err BadCrc)) (Ok t)
 
 -- the tag, unless it has another id than the descriptor's (3/7.2.1, 4/7.2.1)
-unfoldable pub with_id : ℕ → TagRead → TagRead
-with_id id (Refused r) = Refused r
-with_id id (Read t) = pick (eqb t.id id) (Read t) (Refused Malformed)
+unfoldable pub with_id : ℕ → Result DescriptorTag Refusal → Result DescriptorTag Refusal
+with_id id (Err r) = Err r
+with_id id (Ok t) = pick (eqb t.id id) (Ok t) (Err Malformed)
 
 -- the tag of the descriptor at the front of s, with this id and at least `size` bytes; refused, in this order, for too few bytes, a bad tag, a wrong
 -- body where bodies are checked, or another id
-unfoldable pub read_head : Bool → List ℕ → ℕ → ℕ → TagRead
-read_head check s id size = pick (leb size (length s)) (with_id id (with_body check s (read_tag s))) (Refused Malformed)
+unfoldable pub read_head : Bool → List ℕ → ℕ → ℕ → Result DescriptorTag Refusal
+read_head check s id size = pick (leb size (length s)) (with_id id (with_body check s (read_tag s))) (Err Malformed)
 
 -- what comes after the gate: its refusal passes through
-abbrev pub gated : {A : Type 0} → TagRead → (DescriptorTag → Outcome A) → Outcome A
-gated (Refused r) f = refused r
-gated (Read t) f = f t
+abbrev pub gated : {A : Type 0} → Result DescriptorTag Refusal → (DescriptorTag → Outcome A) → Outcome A
+gated (Err r) f = refused r
+gated (Ok t) f = f t
 
 -- ---- the header of an allocation extent: id 258, 24 bytes
 
 -- after the gate: its refusal, or the header
-unfoldable pub aed_after : List ℕ → TagRead → AedRead
-aed_after s (Refused r) = NoHeader r
-aed_after s (Read t) = Header (record { tag = t; previous_allocation_extent_location = u32at s 16; length_of_allocation_descriptors = u32at s 20 })
+unfoldable pub aed_after : List ℕ → Result DescriptorTag Refusal → Result AllocationExtentDescriptor Refusal
+aed_after s (Err r) = Err r
+aed_after s (Ok t) = Ok (record { tag = t; previous_allocation_extent_location = u32at s 16; length_of_allocation_descriptors = u32at s 20 })
 
-unfoldable pub read_aed : Bool → List ℕ → AedRead
+unfoldable pub read_aed : Bool → List ℕ → Result AllocationExtentDescriptor Refusal
 read_aed check s = aed_after s (read_head check s 258 24)
 
 abbrev pub encode_aed : AllocationExtentDescriptor → List ℕ

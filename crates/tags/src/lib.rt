@@ -34,12 +34,6 @@ pub struct DescriptorTag {
     pub location: u32,
 }
 
-#[derive(Clone, Copy)]
-pub enum TagRead {
-    Read(DescriptorTag),
-    Refused(Refusal),
-}
-
 // Whether an id is that of a descriptor of the volume structure.
 fn is_of_volume(id: u16) -> bool
     ensures { result ≡ of_volume id }
@@ -138,38 +132,27 @@ fn fetch(s: &[u8]) -> [u8; 16]
 fn tag_bytes(t: DescriptorTag, sum: u8) -> [u8; 16]
     ensures { result ≡ tag_bytes t sum }
 {
-    [
-        (t.id % 256) as u8,
-        (t.id / 256 % 256) as u8,
-        (t.descriptor_version % 256) as u8,
-        (t.descriptor_version / 256 % 256) as u8,
-        sum,
-        0,
-        (t.serial_number % 256) as u8,
-        (t.serial_number / 256 % 256) as u8,
-        (t.crc % 256) as u8,
-        (t.crc / 256 % 256) as u8,
-        (t.crc_length % 256) as u8,
-        (t.crc_length / 256 % 256) as u8,
-        (t.location % 256) as u8,
-        (t.location / 256 % 256) as u8,
-        (t.location / 65536 % 256) as u8,
-        (t.location / 16777216 % 256) as u8,
-    ]
+    let [a, b] = t.id.to_le_bytes();
+    let [c, d] = t.descriptor_version.to_le_bytes();
+    let [e, f] = t.serial_number.to_le_bytes();
+    let [g, h] = t.crc.to_le_bytes();
+    let [i, j] = t.crc_length.to_le_bytes();
+    let [k, l, m, n] = t.location.to_le_bytes();
+    [a, b, c, d, sum, 0, e, f, g, h, i, j, k, l, m, n]
 }
 
 impl DescriptorTag {
-    pub fn parse(s: &[u8]) -> TagRead
+    pub fn parse(s: &[u8]) -> Result<DescriptorTag, Refusal>
         ensures { result ≡ read_tag s.now }
     {
         if s.len() < 16 {
-            return TagRead::Refused(Refusal::Malformed);
+            return Err(Refusal::Malformed);
         }
         let fetched = fetch(s);
         if is_accepted(&fetched) {
-            TagRead::Read(tag_of(&fetched))
+            Ok(tag_of(&fetched))
         } else {
-            TagRead::Refused(Refusal::Malformed)
+            Err(Refusal::Malformed)
         }
     }
 
@@ -218,65 +201,26 @@ pub struct AllocationExtentDescriptor {
     pub length_of_allocation_descriptors: u32,
 }
 
-#[derive(Clone, Copy)]
-pub enum AedRead {
-    Header(AllocationExtentDescriptor),
-    NoHeader(Refusal),
-}
-
-fn aed_bytes(h: [u8; 16], a: u32, b: u32) -> [u8; 24]
-    ensures { result ≡ sixteen h ++ le32 a ++ le32 b }
-{
-    [
-        h[0],
-        h[1],
-        h[2],
-        h[3],
-        h[4],
-        h[5],
-        h[6],
-        h[7],
-        h[8],
-        h[9],
-        h[10],
-        h[11],
-        h[12],
-        h[13],
-        h[14],
-        h[15],
-        (a % 256) as u8,
-        (a / 256 % 256) as u8,
-        (a / 65536 % 256) as u8,
-        (a / 16777216 % 256) as u8,
-        (b % 256) as u8,
-        (b / 256 % 256) as u8,
-        (b / 65536 % 256) as u8,
-        (b / 16777216 % 256) as u8,
-    ]
-}
-
 impl AllocationExtentDescriptor {
-    pub fn parse(check: bool, s: &[u8]) -> AedRead
+    pub fn parse(check: bool, s: &[u8]) -> Result<AllocationExtentDescriptor, Refusal>
         ensures { result ≡ read_aed check s.now }
     {
-        match read_head(check, s, AED_ID, AED_SIZE) {
-            TagRead::Refused(why) => AedRead::NoHeader(why),
-            TagRead::Read(t) => AedRead::Header(AllocationExtentDescriptor {
-                tag: t,
-                previous_allocation_extent_location: le32(s, 16),
-                length_of_allocation_descriptors: le32(s, 20),
-            }),
-        }
+        let t = read_head(check, s, AED_ID, AED_SIZE)?;
+        Ok(AllocationExtentDescriptor {
+            tag: t,
+            previous_allocation_extent_location: le32(s, 16),
+            length_of_allocation_descriptors: le32(s, 20),
+        })
     }
 
     pub fn encode(self) -> [u8; 24]
         ensures { result ≡ encode_aed self }
     {
-        let t = self.tag;
-        aed_bytes(
-            t.encode(),
-            self.previous_allocation_extent_location,
-            self.length_of_allocation_descriptors,
-        )
+        let [a, b, c, d, e, f, g, h, i, j, k, l, m, n, o, p] = self.tag.encode();
+        let [q, r, t, u] = self.previous_allocation_extent_location.to_le_bytes();
+        let [v, w, x, y] = self.length_of_allocation_descriptors.to_le_bytes();
+        [
+            a, b, c, d, e, f, g, h, i, j, k, l, m, n, o, p, q, r, t, u, v, w, x, y,
+        ]
     }
 }

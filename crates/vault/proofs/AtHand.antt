@@ -1,10 +1,10 @@
 -- RULES 8.2 to 8.10 and 8.22 to 8.24, of a directory's bytes at hand. A listing is a read of the directory and `list_bytes` of what it gave; a step of a
 -- lookup is such a read and `find_in`. Every answer of `find_in` is in the table, and a refusal has zeros; of `list_bytes` this is Promises, since it is a
 -- call that asks for no sector. Assumes nothing.
+use Rattle.std.specs.Prelude.{Option, Some, None}
 use mathlib.Core.Path.{◌≡◌, refl, ap, ◌∙◌}
 use mathlib.Core.Bool.{Bool, true, false}
 use mathlib.Core.List.{List, ◌∷◌}
-use mathlib.Core.Option.{Option, none, some}
 use Prim.Native.Nat.{ℕ, ◌≤◌}
 use native.Mathlib.Nat.{add-zero}
 use lib.ListN.{length}
@@ -67,8 +67,8 @@ module _ (d : Disc) (v : VolumeRecord) (work : ℕ) (matching : Matching) (c : C
   taken : (n : ℕ) (o : Outcome (Option Entry))
       → onward o n (λ x. ran d (or_lost c x (λ e. seeking matching v.mount work cs e.identifier.icb (is_directory e.identifier)))) ≡ after n ((on_from d v work matching c cs) (named_of o))
   unfolding ran outcome asked
-  taken n (answered none) = refl
-  taken n (answered (some e)) = refl
+  taken n (answered None) = refl
+  taken n (answered (Some e)) = refl
   taken n (refused why) = rw (ne_eqb (number why) 0 (refusal-numbered why), refusal-known why, add-zero)
 
   pub step-finds : (icb : LongAd) (b : List ℕ) (n : ℕ) → ran d (directory_bytes v.mount work icb) ≡ record { outcome = answered b; count = n }
@@ -86,8 +86,8 @@ pub find-bare : (v : VolumeRecord) (bytes component : List ℕ) (matching : Matc
 find-bare v bytes component matching = by (find_in (is_checked v.mount) matching component bytes)
   where
     by : (o : Outcome (Option Entry)) → ((named_of o).answer ≡ 0 → ⊥) → named_of o ≡ unnamed (named_of o).answer
-    by (answered none) h = refl
-    by (answered (some e)) h = absurd (h refl)
+    by (answered None) h = refl
+    by (answered (Some e)) h = absurd (h refl)
     by (refused why) h = refl
 
 -- and every answer is in the table
@@ -101,6 +101,6 @@ find-listed v bytes component matching =
     Said why = in_find v matching (number why) ≡ true
 
     by : (o : Outcome (Option Entry)) → Only Said Any (ended o) → in_find v matching (named_of o).answer ≡ true
-    by (answered none) p = refl
-    by (answered (some e)) p = refl
+    by (answered None) p = refl
+    by (answered (Some e)) p = refl
     by (refused why) p = p

@@ -1,6 +1,5 @@
 -- Calls along a path: where it leads, what they meet on the way, and which entry they take.
-use Rattle.std.specs.Prelude.{true, false, List, map, ◌≡◌, ℕ, ◌+◌, length}
-use Rattle.std.proofs.Math.Option.{some, none, Option}
+use Rattle.std.specs.Prelude.{true, false, List, map, ◌≡◌, ℕ, ◌+◌, length, Option, Some, None}
 use Rattle.disc.specs.Ask.{Outcome}
 use Rattle.disc.specs.Ask.Outcome.{answered, refused}
 use Rattle.disc.specs.Images.{disc}
@@ -44,8 +43,8 @@ sectors_of_several image v path work o = sectors_to image v Unambiguous work o.b
 
 -- the outcome of a lookup by its last entry: the ICB, 3 if there is no entry, or the refusal
 abbrev pub icb_or3 : Outcome (Option Entry) → Outcome LongAd
-icb_or3 (answered none) = refused NotBluray
-icb_or3 (answered (some e)) = answered e.identifier.icb
+icb_or3 (answered None) = refused NotBluray
+icb_or3 (answered (Some e)) = answered e.identifier.icb
 icb_or3 (refused why) = refused why
 
 -- a lookup took an entry: the first of its directory that answers to the last component; it is listed, and its name is the component under the choice
@@ -55,7 +54,7 @@ pub record Taken (image : List ℕ) (v : VolumeRecord) (path : List ℕ) (matchi
   pub led : LeadTo image v matching work cs directory
   pub taken : Entry
   pub takes : Takes (disc image) matching v.mount (length work) directory c.bytes taken
-  pub first : first_named (fold_in matching) c.bytes takes.all ≡ some taken
+  pub first : first_named (fold_in matching) c.bytes takes.all ≡ Some taken
   pub icb : (finds image v path matching work).found.icb ≡ taken.identifier.icb
   pub answers : answers_to (fold_in matching) c.bytes taken ≡ true
   pub listed : is_skipped taken.identifier ≡ false

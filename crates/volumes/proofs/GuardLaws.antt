@@ -1,9 +1,9 @@
 -- Opening and the label with bodies checked are the same calls without, with each descriptor marked that is parsed: the anchor, those of the main
 -- sequence that aren't skipped by their id, and the file set descriptor. Assumes nothing.
+use Rattle.std.specs.Prelude.{Option, Some, None}
 use mathlib.Core.Path.{◌≡◌, refl, ap, ◌∙◌}
 use mathlib.Core.Bool.{Bool, true, false, not}
 use mathlib.Core.List.{List, ◌∷◌}
-use mathlib.Core.Option.{Option, none, some}
 use Prim.Native.Nat.{ℕ, zero, suc, ◌+◌, ◌*◌}
 use native.Mathlib.Omega.{arith}
 use lib.ListN.{get_or}
@@ -124,8 +124,8 @@ module _ (h maps : Bool) (ps : List Parsed) (k : Kept) where
   starts-checked = starts-same (choice h maps true) (choice h maps false) ps (λ number. refl) k.maps 0 k.map_count
 
   mounted-checked : (o : Option (List ℕ)) → mounted_by true k o ≡ mount_checked (mounted_by false k o)
-  mounted-checked none = refl
-  mounted-checked (some l) = by (ltb (file_set_ref k) k.map_count)
+  mounted-checked None = refl
+  mounted-checked (Some l) = by (ltb (file_set_ref k) k.map_count)
     where
       by : (t : Bool) → pick t (answered (mount_from_starts true k (each_of k.map_count (λ i. get_or l i 0)))) (refused Unsupported)
           ≡ mount_checked (pick t (answered (mount_from_starts false k (each_of k.map_count (λ i. get_or l i 0)))) (refused Unsupported))
@@ -163,8 +163,8 @@ mounting-guards h maps ps k =
     stands : (m : Mount) (o : Option ℕ)
         → Guards right_at (standing o (λ s. ask s (λ b. ended (volume_in (checked_mount m) k (read_file_set true b)))))
         (marked (standing o (λ s. ask s (λ b. ended (volume_in m k (read_file_set false b))))))
-    stands m none = refuse-guards Unsupported (λ e. omega arith)
-    stands m (some s) = ask-guards s (set m)
+    stands m None = refuse-guards Unsupported (λ e. omega arith)
+    stands m (Some s) = ask-guards s (set m)
 
     mounted : (x : Outcome Mount) → ((r : Refusal) → x ≡ refused r → ButBad r) → Guards right_at (then (ended (mount_checked x)) (file_set_on true k)) (marked (then (ended x) (file_set_on false k)))
     mounted (answered m) f = stands m (file_set_in m k)

@@ -6,7 +6,6 @@ pub mod OpeningLaws
 pub mod LabelLaws
 pub mod NamedLaws
 pub mod Prevailing
-pub mod ChoiceLaws
 pub mod Promises
 pub mod MappingLaws
 pub mod GuardLaws

@@ -1,18 +1,19 @@
 -- How a volume is read: by the partition that was kept, or through the partition maps. Assumes nothing.
+use Rattle.std.specs.Prelude.{⊤, Option, Some, None, Result, Ok, Err}
+use Rattle.std.specs.Option.{ok_or}
 use mathlib.Core.Path.{◌≡◌, refl, ap, sym, ◌∙◌}
-use mathlib.Core.Bool.{Bool, true, false, ◌&&◌}
+use mathlib.Core.Bool.{Bool, true, false}
 use mathlib.Core.List.{List, [], ◌∷◌}
-use mathlib.Core.Option.{Option, none, some}
 use Prim.Native.Nat.{ℕ, zero, suc, ◌+◌, ◌-◌, ◌*◌, ◌≤◌, ◌<◌, min}
-use native.Mathlib.Nat.{add-sub_cancel_left, sub-zero, add-zero, zero-add}
+use native.Mathlib.Nat.{add-zero, zero-add}
 use native.Mathlib.Numerals.{add-one}
 use native.Mathlib.Omega.{arith}
-use lib.ListN.{length, get_or, take, drop, replicate, set}
+use lib.ListN.{length, get_or, replicate, set}
 use lib.Seq.{sets}
-use lib.Dec.{eqb, ltb}
+use lib.Dec.{ltb}
 use borrow.Author.Tests.{ne_eqb, lt-ltb, le-ltb, ltb-true, ltb-false}
 use Rattle.disc.specs.Choice.{pick}
-use Rattle.disc.specs.Refusals.{number}
+use Rattle.disc.specs.Replies.{returned}
 use Rattle.disc.specs.Ask.{Outcome}
 use Rattle.disc.specs.Ask.Outcome.{answered, refused}
 use Rattle.disc.specs.Images.{disc}
@@ -22,134 +23,100 @@ use Rattle.disc.specs.declared.places.Mount.{Mount}
 use Rattle.disc.specs.declared.refusals.Refusal.{Refusal}
 use Rattle.disc.specs.declared.refusals.Refusal.TheVariants.{Malformed, Unsupported}
 use Rattle.disc.proofs.RanLaws.{never}
-use Rattle.disc.proofs.RefusalLaws.{refusal-numbered}
-use Rattle.disc.proofs.PickLaws.{pick_yes, pick_no, not-both, picked}
-use Rattle.records.specs.Bytes.{byte, u16at}
+use Rattle.disc.proofs.PickLaws.{pick_yes, pick_no, picked}
 use Rattle.volumes.specs.Sequences.{nothing, Parsed, order_of, wanted_of, kept_of, scan, scanned_by, scanned_of}
-use Rattle.volumes.specs.Openings.{plain_mount, map_at, map_in, is_plain_map, volume_of_map, number_of_map, start_of_number, start_of_map, start_then, starts_from, map_starts, each_of, file_set_ref, mount_from_starts, mounted_by, mapped_mount, mount_of, file_set_in, no_mount}
-use Rattle.volumes.specs.Inner.Steps.{parsed_in, scanned_in, tabled, word_in, words_in, mount_read, map_start_by, map_starts_by}
+use Rattle.volumes.specs.Openings.{plain_mount, map_at, map_in, is_plain_map, volume_of_map, number_of_map, start_of_number, start_of_map, start_then, starts_from, map_starts, each_of, file_set_ref, mount_from_starts, mounted_by, mapped_mount, mount_of, file_set_in}
+use Rattle.volumes.specs.Inner.Steps.{parsed_in, scanned_in, tabled, map_starts_by, mount_behind}
 use Rattle.volumes.specs.declared.sequences.Kept.{Kept}
 use Rattle.volumes.specs.declared.sequences.Wanted.{Wanted}
 use Rattle.volumes.specs.declared.sequences.Wanted.TheVariants.{Numbered}
 use Rattle.volumes.specs.declared.sequences.Scanned.{Scanned}
-use Rattle.volumes.specs.declared.mounts.MountRead.{MountRead}
-use Rattle.volumes.specs.declared.mounts.MapStart.{MapStart}
-use Rattle.volumes.specs.declared.mounts.MapStarts.{MapStarts}
 use Rattle.volumes.specs.declared.openings.How.{How}
 use Rattle.volumes.specs.Made.{Mapped}
 
--- the return of `plain_mount`
-pub mount-is : (check : Bool) (k : Kept) {n : ℕ} → n ≡ pick check 1 0
-    → record {
-      start = k.partition_start;
-      partition = k.partition_number;
-      checked = n;
-      maps = 0;
-      volumes = replicate 4 0;
-      numbers = replicate 4 0;
-      starts = replicate 4 0;
-    }
-    ≡ plain_mount check k
-mount-is check k e = rw e
-
 -- ---- a map
 
--- the return of `map_at`
-pub map-part : (maps : List ℕ) (i : ℕ) → take (6 * i + 6 - 6 * i) (drop (6 * i) maps) ≡ map_at maps i
-map-part maps i = rw add-sub_cancel_left
-
--- the return of `is_plain_map`
-pub plain-bytes : (b : List ℕ) {p q : ℕ} → p ≡ byte b 0 → q ≡ byte b 1 → (eqb p 1 && eqb q 6) ≡ is_plain_map b
-plain-bytes b e f = rw (e, f)
-
--- the returns of `map_word`
-module _ (k : Kept) (j i : ℕ) where
-  pub word_none : k.map_count ≤ i → 0 ≡ word_in k j i
-  word_none h = rw (le-ltb i k.map_count h)
-
-  pub word-is : i < k.map_count → {b : List ℕ} → b ≡ map_in k i → {r : ℕ} → r ≡ u16at b j → r ≡ word_in k j i
-  word-is h e f = rw (lt-ltb i k.map_count h, ← e) f
-
 -- what a scan keeps is what is kept of the descriptors that it answered, none where it was refused
-pub scanned-kept : (image : List ℕ) (how : How) (wanted : Wanted) (first n : ℕ) {s : Scanned}
-    → s ≡ scanned_of (order_of how) (wanted_of wanted) nothing (ran (disc image) (scan how.checked n first))
-    → s.kept ≡ kept_of (order_of how) (wanted_of wanted) nothing (scanned_in image how first n)
-unfolding scanned_in kept_of
-scanned-kept image how wanted first n {s} e = by (ran (disc image) (scan how.checked n first)).outcome (ran (disc image) (scan how.checked n first)).count e
-  where
-    by : (x : Outcome (List Parsed)) (c : ℕ) → s ≡ scanned_by (order_of how) (wanted_of wanted) nothing x c → s.kept ≡ kept_of (order_of how) (wanted_of wanted) nothing (parsed_in x)
-    by (answered ps) c h = rw h
-    by (refused r) c h = rw h
+module _ (image : List ℕ) (how : How) (wanted : Wanted) (first n : ℕ) {s : Scanned} (e : s ≡ scanned_of (order_of how) (wanted_of wanted) nothing (ran (disc image) (scan how.checked n first))) where
+  scanned-kept : {k : Kept} → s.kept ≡ Ok k → k ≡ kept_of (order_of how) (wanted_of wanted) nothing (scanned_in image how first n)
+  unfolding scanned_in
+  scanned-kept {k} h = by (ran (disc image) (scan how.checked n first)).outcome (sym h ∙ ap (λ (x : Scanned). x.kept) e)
+    where
+      by : (x : Outcome (List Parsed)) → Ok k ≡ (scanned_by (order_of how) (wanted_of wanted) nothing x (ran (disc image) (scan how.checked n first)).count).kept
+          → k ≡ kept_of (order_of how) (wanted_of wanted) nothing (parsed_in x)
+      by (answered ps) q = cc
+      by (refused r) q = absurd (cc)
+
+  scanned-none : {why : Refusal} → s.kept ≡ Err why → nothing ≡ kept_of (order_of how) (wanted_of wanted) nothing (scanned_in image how first n)
+  unfolding scanned_in kept_of
+  scanned-none {why} h = by (ran (disc image) (scan how.checked n first)).outcome (sym h ∙ ap (λ (x : Scanned). x.kept) e)
+    where
+      by : (x : Outcome (List Parsed)) → Err why ≡ (scanned_by (order_of how) (wanted_of wanted) nothing x (ran (disc image) (scan how.checked n first)).count).kept
+          → nothing ≡ kept_of (order_of how) (wanted_of wanted) nothing (parsed_in x)
+      by (answered ps) q = absurd (cc)
+      by (refused r) q = refl
 
 -- the returns of `map_start`
-module _ (image : List ℕ) (how : How) (b : List ℕ) (first n : ℕ) {t : MapStart} {p : Bool} (e : p ≡ is_plain_map b) where
-  pub map_other : p ≡ false → t ≡ record { good = false; start = 0 } → t ≡ map_start_by (start_of_map how (scanned_in image how first n) b)
-  map_other h q = rw (← e, h) q
+module _ (image : List ℕ) (how : How) (b : List ℕ) (first n : ℕ) {p : Bool} (e : p ≡ is_plain_map b) (h : p ≡ true) {number : ℕ} (m : number ≡ number_of_map b) {s : Scanned}
+    (f : s ≡ scanned_of (order_of how) (wanted_of (Numbered number)) nothing (ran (disc image) (scan how.checked n first))) where
+  pub map-refused : {why : Refusal} → s.kept ≡ Err why → None ≡ start_of_map how (scanned_in image how first n) b
+  unfolding start_of_number
+  map-refused g = rw (← e, h, ← m, ← scanned-none image how (Numbered number) first n f g)
 
-  module _ (h : p ≡ true) {number : ℕ} (m : number ≡ number_of_map b) {s : Scanned}
-      (f : s ≡ scanned_of (order_of how) (wanted_of (Numbered number)) nothing (ran (disc image) (scan how.checked n first))) where
-    pub map-unnumbered : s.kept.has_partition ≡ false → t ≡ record { good = false; start = 0 } → t ≡ map_start_by (start_of_map how (scanned_in image how first n) b)
-    unfolding start_of_number
-    map-unnumbered u q = rw (← e, h, ← m, ← scanned-kept image how (Numbered number) first n f, u) q
+  pub map-unnumbered : {k : Kept} → s.kept ≡ Ok k → k.has_partition ≡ false → None ≡ start_of_map how (scanned_in image how first n) b
+  unfolding start_of_number
+  map-unnumbered g u = rw (← e, h, ← m, ← scanned-kept image how (Numbered number) first n f g, u)
 
-    pub map-numbered : s.kept.has_partition ≡ true → t ≡ record { good = true; start = s.kept.partition_start } → t ≡ map_start_by (start_of_map how (scanned_in image how first n) b)
-    unfolding start_of_number
-    map-numbered u q = rw (← e, h, ← m, ← scanned-kept image how (Numbered number) first n f, u) q
+  pub map-numbered : {k : Kept} → s.kept ≡ Ok k → k.has_partition ≡ true → Some k.partition_start ≡ start_of_map how (scanned_in image how first n) b
+  unfolding start_of_number
+  map-numbered g u = rw (← e, h, ← m, ← scanned-kept image how (Numbered number) first n f g, u)
 
 -- ---- the loop over the maps has come to the i-th
 
 -- the starts of the maps that are left, stored from i on
 abbrev laid : List ℕ → ℕ → Option (List ℕ) → Option (List ℕ)
-laid a i none = none
-laid a i (some l) = some (sets a i l)
+laid a i None = None
+laid a i (Some l) = Some (sets a i l)
 
 pub record Mapping (image : List ℕ) (how : How) (first n : ℕ) (maps : List ℕ) (count : ℕ) (starts : List ℕ) (i : ℕ) : Type 0 where
   pub within : i ≤ count
   pub few : count ≤ 4
   pub rest : laid starts i (starts_from how (scanned_in image how first n) maps i (count - i)) ≡ laid (replicate 4 0) 0 (starts_from how (scanned_in image how first n) maps 0 count)
 
-pub mapping-starts : (image : List ℕ) (how : How) (first n : ℕ) (maps : List ℕ) (count : ℕ) → count ≤ 4 → Mapping image how first n maps count (replicate 4 0) 0
-mapping-starts image how first n maps count h = record { within = omega arith; few = h; rest = rw sub-zero }
+-- one more start is stored
+stored : (a : List ℕ) (i s : ℕ) (r : Option (List ℕ)) → laid (set a i s) (i + 1) r ≡ laid a i (start_then (Some s) r)
+stored a i s None = refl
+stored a i s (Some l) = rw add-one
 
 module _ {image : List ℕ} {how : How} {first n : ℕ} {maps : List ℕ} {count : ℕ} {starts : List ℕ} {i : ℕ} (p : Mapping image how first n maps count starts i) (h : i < count)
-    {b : List ℕ} (e : b ≡ map_at maps i) {t : MapStart} (f : t ≡ map_start_by (start_of_map how (scanned_in image how first n) b)) where
+    {b : List ℕ} (e : b ≡ map_at maps i) {o : Option ℕ} (f : o ≡ start_of_map how (scanned_in image how first n) b) where
   abbrev behind : Option (List ℕ)
   behind = starts_from how (scanned_in image how first n) maps (i + 1) (count - (i + 1))
 
-  turn-rest : laid starts i (start_then (start_of_map how (scanned_in image how first n) b) behind) ≡ laid (replicate 4 0) 0 (starts_from how (scanned_in image how first n) maps 0 count)
+  turn-rest : laid starts i (start_then o behind) ≡ laid (replicate 4 0) 0 (starts_from how (scanned_in image how first n) maps 0 count)
   unfolding starts_from
-  turn-rest = let one : count - i ≡ suc (count - (i + 1)) = omega arith in rw e (rw one at p.rest)
+  turn-rest = let one : count - i ≡ suc (count - (i + 1)) = omega arith in rw (f, e) (rw one at p.rest)
 
-  pub mapping-next : t.good ≡ true → Mapping image how first n maps count (set starts i t.start) (i + 1)
-  mapping-next y = record { within = omega arith; few = p.few; rest = by (start_of_map how (scanned_in image how first n) b) f behind ∙ turn-rest }
+  pub mapping-next : {s : ℕ} → o ≡ Some s → Mapping image how first n maps count (set starts i s) (i + 1)
+  mapping-next {s} y = record { within = omega arith; few = p.few; rest = stored starts i s behind ∙ ap (λ (x : Option ℕ). laid starts i (start_then x behind)) (sym y) ∙ turn-rest }
+
+  pub mapping-stops : o ≡ None → None ≡ map_starts_by count (starts_from how (scanned_in image how first n) maps 0 count)
+  mapping-stops y = by (starts_from how (scanned_in image how first n) maps 0 count) (ap (λ (x : Option ℕ). laid starts i (start_then x behind)) (sym y) ∙ turn-rest)
     where
-      by : (o : Option ℕ) → t ≡ map_start_by o → (r : Option (List ℕ)) → laid (set starts i t.start) (i + 1) r ≡ laid starts i (start_then o r)
-      by none q r = not-both (sym (ap (λ (x : MapStart). x.good) q) ∙ y)
-      by (some s) q none = refl
-      by (some s) q (some l) = rw (q, add-one)
-
-  pub mapping-stops : t.good ≡ false → {r : MapStarts} → r ≡ map_starts_by 0 none → r ≡ map_starts_by count (starts_from how (scanned_in image how first n) maps 0 count)
-  mapping-stops y {r} q = by (start_of_map how (scanned_in image how first n) b) f turn-rest
-    where
-      all : (o : Option (List ℕ)) → none ≡ laid (replicate 4 0) 0 o → r ≡ map_starts_by count o
-      all none g = q
-      all (some l) g = absurd (let z : ◌≡◌ {A = ℕ} 0 1 = cc in omega arith)
-
-      by : (o : Option ℕ) → t ≡ map_start_by o → laid starts i (start_then o behind) ≡ laid (replicate 4 0) 0 (starts_from how (scanned_in image how first n) maps 0 count)
-          → r ≡ map_starts_by count (starts_from how (scanned_in image how first n) maps 0 count)
-      by none u g = all (starts_from how (scanned_in image how first n) maps 0 count) g
-      by (some s) u g = not-both (sym y ∙ ap (λ (x : MapStart). x.good) u)
+      by : (x : Option (List ℕ)) → None ≡ laid (replicate 4 0) 0 x → None ≡ map_starts_by count x
+      by None g = refl
+      by (Some l) g = absurd (cc)
 
 -- as many starts as maps
-starts-length : (how : How) (ps : List Parsed) (maps : List ℕ) (i n : ℕ) {l : List ℕ} → starts_from how ps maps i n ≡ some l → length l ≡ n
+starts-length : (how : How) (ps : List Parsed) (maps : List ℕ) (i n : ℕ) {l : List ℕ} → starts_from how ps maps i n ≡ Some l → length l ≡ n
 unfolding starts_from
 starts-length how ps maps i zero {l} e = let z : [] ≡ l = cc in rw (← z)
 starts-length how ps maps i (suc n) {l} e = by (start_of_map how ps (map_at maps i)) (starts_from how ps maps (i + 1) n) (λ rest q. starts-length how ps maps (i + 1) n q) e
   where
-    by : (o : Option ℕ) (r : Option (List ℕ)) → ((rest : List ℕ) → r ≡ some rest → length rest ≡ n) → start_then o r ≡ some l → length l ≡ suc n
-    by none r f g = absurd (let z : ◌≡◌ {A = ℕ} 0 1 = cc in omega arith)
-    by (some s) none f g = absurd (let z : ◌≡◌ {A = ℕ} 0 1 = cc in omega arith)
-    by (some s) (some rest) f g = let z : s ∷ rest ≡ l = cc in rw (← z) (ap suc (f rest refl))
+    by : (o : Option ℕ) (r : Option (List ℕ)) → ((rest : List ℕ) → r ≡ Some rest → length rest ≡ n) → start_then o r ≡ Some l → length l ≡ suc n
+    by None r f g = absurd (let z : ◌≡◌ {A = ℕ} 0 1 = cc in omega arith)
+    by (Some s) None f g = absurd (let z : ◌≡◌ {A = ℕ} 0 1 = cc in omega arith)
+    by (Some s) (Some rest) f g = let z : s ∷ rest ≡ l = cc in rw (← z) (ap suc (f rest refl))
 
 -- in their four places
 each-stored : (l : List ℕ) → length l ≤ 4 → sets (replicate 4 0) 0 l ≡ each_of (length l) (λ i. get_or l i 0)
@@ -161,114 +128,81 @@ each-stored (a ∷ b ∷ c ∷ d ∷ []) h = refl
 each-stored (a ∷ b ∷ c ∷ d ∷ e ∷ l) h = absurd (omega arith)
 
 pub mapping-ends : {image : List ℕ} {how : How} {first n : ℕ} {maps : List ℕ} {count : ℕ} {starts : List ℕ} {i : ℕ} → Mapping image how first n maps count starts i → count ≤ i
-    → record { good = true; starts = starts } ≡ map_starts_by count (starts_from how (scanned_in image how first n) maps 0 count)
+    → Some starts ≡ map_starts_by count (starts_from how (scanned_in image how first n) maps 0 count)
 unfolding starts_from
 mapping-ends {image} {how} {first} {n} {maps} {count} {starts} {i} p h =
     let z : count - i ≡ 0 = omega arith in
     by (starts_from how (scanned_in image how first n) maps 0 count) refl (rw z at p.rest)
   where
-    by : (o : Option (List ℕ)) → starts_from how (scanned_in image how first n) maps 0 count ≡ o → some starts ≡ laid (replicate 4 0) 0 o → record { good = true; starts = starts } ≡ map_starts_by count o
-    by none q g = absurd (let z : ◌≡◌ {A = ℕ} 0 1 = cc in omega arith)
-    by (some l) q g =
+    by : (o : Option (List ℕ)) → starts_from how (scanned_in image how first n) maps 0 count ≡ o → Some starts ≡ laid (replicate 4 0) 0 o → Some starts ≡ map_starts_by count o
+    by None q g = absurd (cc)
+    by (Some l) q g =
         let w : length l ≡ count = starts-length how (scanned_in image how first n) maps 0 count q in
-        let s : starts ≡ sets (replicate 4 0) 0 l = cc in
         let m = p.few in
-        rw (s, ← w) (ap (λ (a : List ℕ). record { good = true; starts = a }) (each-stored l (omega arith)))
+        g ∙ rw (← w) (ap Some (each-stored l (omega arith)))
 
 -- ---- the mount
 
--- the return of `mount_from_starts`
-pub mount-by-is : (check : Bool) (k : Kept) (starts : List ℕ) {n : ℕ} {numbers volumes : List ℕ} → n ≡ pick check 1 0 → numbers ≡ words_in k 4 → volumes ≡ words_in k 2
-    → record {
-      start = get_or starts (file_set_ref k) 0;
-      partition = get_or numbers (file_set_ref k) 0;
-      checked = n;
-      maps = k.map_count;
-      volumes = volumes;
-      numbers = numbers;
-      starts = starts;
-    }
-    ≡ mount_from_starts check k starts
-mount-by-is check k starts e f g = rw (e, f, g)
-
--- what the table's answer tells
-data Tables (m x : Outcome Mount) (n : ℕ) : Type 0 where
-  goes : x ≡ m → n ≡ 0 → Tables m x n
-  stops : (r : Refusal) → x ≡ refused r → n ≡ number r → Tables m x n
-
-tables : (how : How) (ps : List Parsed) (k : Kept) → Tables (mounted_by how.checked k (map_starts how ps k k.map_count)) (mapped_mount how ps k) (tabled k)
+-- behind the check of the table
+tables : (how : How) (ps : List Parsed) (k : Kept) → returned (mapped_mount how ps k) ≡ mount_behind (tabled k) (returned (mounted_by how.checked k (map_starts how ps k k.map_count)))
 unfolding mapped_mount tabled
 tables how ps k = by (ltb 4 k.map_count) (ltb k.map_table_length (6 * k.map_count)) (ltb 2048 (440 + k.map_table_length)) (mounted_by how.checked k (map_starts how ps k k.map_count))
   where
     by : (a b c : Bool) (m : Outcome Mount)
-        → Tables m (pick a (refused Unsupported) (pick b (refused Malformed) (pick c (refused Malformed) m))) (pick a 4 (pick b 2 (pick c 2 0)))
-    by true b c m = stops Unsupported refl refl
-    by false true c m = stops Malformed refl refl
-    by false false true m = stops Malformed refl refl
-    by false false false m = goes refl refl
+        → returned (pick a (refused Unsupported) (pick b (refused Malformed) (pick c (refused Malformed) m)))
+        ≡ mount_behind (pick a (Err Unsupported) (pick b (Err Malformed) (pick c (Err Malformed) (Ok tt)))) (returned m)
+    by true b c m = refl
+    by false true c m = refl
+    by false false true m = refl
+    by false false false m = refl
 
-pub table-few : (k : Kept) {a : ℕ} → a ≡ tabled k → a ≡ 0 → k.map_count ≤ 4
-unfolding tabled
-table-few k {a} e z = by (ltb 4 k.map_count) _ refl (sym e ∙ z)
-  where
-    by : (t : Bool) (n : ℕ) → ltb 4 k.map_count ≡ t → pick t 4 n ≡ 0 → k.map_count ≤ 4
-    by true n q h = absurd (omega arith)
-    by false n q h = ltb-false 4 k.map_count q
+module _ (k : Kept) {a : Result ⊤ Refusal} (e : a ≡ tabled k) {x : ⊤} (z : a ≡ Ok x) where
+  pub table-few : k.map_count ≤ 4
+  unfolding tabled
+  table-few = by (ltb 4 k.map_count) _ refl (sym e ∙ z)
+    where
+      by : (t : Bool) (r : Result ⊤ Refusal) → ltb 4 k.map_count ≡ t → pick t (Err Unsupported) r ≡ Ok x → k.map_count ≤ 4
+      by true r q h = absurd (cc)
+      by false r q h = ltb-false 4 k.map_count q
 
--- so a reference that is below the number of maps has its place
-pub reference-few : (k : Kept) {a : ℕ} → a ≡ tabled k → a ≡ 0 → file_set_ref k < k.map_count → file_set_ref k < 4
-reference-few k e z h = let f = table-few k e z in omega arith
+  -- so a reference that is below the number of maps has its place
+  pub reference-few : file_set_ref k < k.map_count → file_set_ref k < 4
+  reference-few h = let f = table-few in omega arith
 
 -- the returns of `mapped_mount`
-module _ (image : List ℕ) (how : How) (k : Kept) (first n : ℕ) {a : ℕ} (e : a ≡ tabled k) where
-  pub table-not : {r : MountRead} → (a ≡ 0 → ⊥) → r ≡ record { answer = a; mount = no_mount } → r ≡ mount_read (mapped_mount how (scanned_in image how first n) k)
-  table-not {r} h q = by (tables how (scanned_in image how first n) k)
-    where
-      by : Tables (mounted_by how.checked k (map_starts how (scanned_in image how first n) k k.map_count)) (mapped_mount how (scanned_in image how first n) k) (tabled k)
-          → r ≡ mount_read (mapped_mount how (scanned_in image how first n) k)
-      by (goes f z) = absurd (h (e ∙ z))
-      by (stops w f z) = rw (f, ← z, ← e) q
+module _ (image : List ℕ) (how : How) (k : Kept) (first n : ℕ) {a : Result ⊤ Refusal} (e : a ≡ tabled k) where
+  pub table-not : {why : Refusal} → a ≡ Err why → Err why ≡ returned (mapped_mount how (scanned_in image how first n) k)
+  table-not h = rw (tables how (scanned_in image how first n) k, ← e, h)
 
-  tabled-well : a ≡ 0 → mapped_mount how (scanned_in image how first n) k ≡ mounted_by how.checked k (map_starts how (scanned_in image how first n) k k.map_count)
-  tabled-well y = by (tables how (scanned_in image how first n) k)
-    where
-      by : {m x : Outcome Mount} → Tables m x (tabled k) → x ≡ m
-      by (goes g z) = g
-      by (stops w g z) = absurd (refusal-numbered w (sym z ∙ sym e ∙ y))
+  module _ {x : ⊤} (y : a ≡ Ok x) {s : Option (List ℕ)} (f : s ≡ map_starts_by k.map_count (map_starts how (scanned_in image how first n) k k.map_count)) where
+    tabled-well : returned (mapped_mount how (scanned_in image how first n) k) ≡ returned (mounted_by how.checked k (map_starts how (scanned_in image how first n) k k.map_count))
+    tabled-well = rw (tables how (scanned_in image how first n) k, ← e, y)
 
-  module _ (y : a ≡ 0) {s : MapStarts} (f : s ≡ map_starts_by k.map_count (map_starts how (scanned_in image how first n) k k.map_count)) {r : MountRead} where
-    pub starts-not : s.good ≡ false → r ≡ record { answer = 4; mount = no_mount } → r ≡ mount_read (mapped_mount how (scanned_in image how first n) k)
-    starts-not u q = rw (tabled-well y) (by (map_starts how (scanned_in image how first n) k k.map_count) f)
+    pub starts-not : {why : Refusal} → ok_or s Unsupported ≡ Err why → Err why ≡ returned (mapped_mount how (scanned_in image how first n) k)
+    starts-not {why} u = rw tabled-well (by (map_starts how (scanned_in image how first n) k k.map_count) s f u)
       where
-        by : (o : Option (List ℕ)) → s ≡ map_starts_by k.map_count o → r ≡ mount_read (mounted_by how.checked k o)
-        by none g = q
-        by (some l) g = not-both (sym u ∙ ap (λ (x : MapStarts). x.good) g)
+        by : (o s : Option (List ℕ)) → s ≡ map_starts_by k.map_count o → ok_or s Unsupported ≡ Err why → Err why ≡ returned (mounted_by how.checked k o)
+        by None None g h = let z : Unsupported ≡ why = cc in ap Err (sym z)
+        by None (Some l) g h = absurd (cc)
+        by (Some l) None g h = absurd (cc)
+        by (Some l) (Some t) g h = absurd (cc)
 
-    module _ (u : s.good ≡ true) where
-      pub file-set-past : k.map_count ≤ file_set_ref k → r ≡ record { answer = 4; mount = no_mount } → r ≡ mount_read (mapped_mount how (scanned_in image how first n) k)
-      file-set-past h q = rw (tabled-well y) (by (map_starts how (scanned_in image how first n) k k.map_count) f)
+    module _ {t : List ℕ} (u : ok_or s Unsupported ≡ Ok t) where
+      pub file-set-past : k.map_count ≤ file_set_ref k → Err Unsupported ≡ returned (mapped_mount how (scanned_in image how first n) k)
+      file-set-past h = rw tabled-well (by (map_starts how (scanned_in image how first n) k k.map_count))
         where
-          by : (o : Option (List ℕ)) → s ≡ map_starts_by k.map_count o → r ≡ mount_read (mounted_by how.checked k o)
-          by none g = q
-          by (some l) g = rw (le-ltb (file_set_ref k) k.map_count h) q
+          by : (o : Option (List ℕ)) → Err Unsupported ≡ returned (mounted_by how.checked k o)
+          by None = refl
+          by (Some l) = rw (le-ltb (file_set_ref k) k.map_count h)
 
-      pub mapped-is : file_set_ref k < k.map_count → {m : Mount} → m ≡ mount_from_starts how.checked k s.starts → r ≡ record { answer = 0; mount = m }
-          → r ≡ mount_read (mapped_mount how (scanned_in image how first n) k)
-      mapped-is h {m} g q = rw (tabled-well y) (by (map_starts how (scanned_in image how first n) k k.map_count) f)
+      pub mapped-is : file_set_ref k < k.map_count → Ok (mount_from_starts how.checked k t) ≡ returned (mapped_mount how (scanned_in image how first n) k)
+      mapped-is h = rw tabled-well (by (map_starts how (scanned_in image how first n) k k.map_count) s f u)
         where
-          by : (o : Option (List ℕ)) → s ≡ map_starts_by k.map_count o → r ≡ mount_read (mounted_by how.checked k o)
-          by none w = not-both (sym (ap (λ (x : MapStarts). x.good) w) ∙ u)
-          by (some l) w = rw (lt-ltb (file_set_ref k) k.map_count h) (q ∙ rw (g, w))
-
--- the returns of `chosen_mount`
-module _ (image : List ℕ) (how : How) (k : Kept) (first n : ℕ) {r : MountRead} where
-  pub mount-mapped : how.maps ≡ true → r ≡ mount_read (mapped_mount how (scanned_in image how first n) k) → r ≡ mount_read (mount_of how (scanned_in image how first n) k)
-  unfolding mount_of
-  mount-mapped h q = q ∙ ap mount_read (pick_yes (Outcome Mount) how.maps how.maps _ _ _ refl h refl)
-
-  pub mount-own : how.maps ≡ false → {m : Mount} → m ≡ plain_mount how.checked k → r ≡ record { answer = 0; mount = m } → r ≡ mount_read (mount_of how (scanned_in image how first n) k)
-  unfolding mount_of
-  mount-own h e q = q ∙ rw e (ap mount_read (pick_no (Outcome Mount) how.maps how.maps _ _ _ refl h refl))
+          by : (o s : Option (List ℕ)) → s ≡ map_starts_by k.map_count o → ok_or s Unsupported ≡ Ok t → Ok (mount_from_starts how.checked k t) ≡ returned (mounted_by how.checked k o)
+          by None None g w = absurd (cc)
+          by None (Some l) g w = absurd (cc)
+          by (Some l) None g w = absurd (cc)
+          by (Some l) (Some v) g w = let z : t ≡ each_of k.map_count (λ i. get_or l i 0) = cc in rw (lt-ltb (file_set_ref k) k.map_count h, z)
 
 -- ---- the mount that was made of a list of descriptors
 
@@ -289,8 +223,8 @@ mount-refuses P bad other how ps k {r} =
     is {w} p e = let z : w ≡ r = cc in rw z at p
 
     by : (o : Option (List ℕ)) → mounted_by how.checked k o ≡ refused r → P r
-    by none e = is other e
-    by (some l) e = past (ltb (file_set_ref k) k.map_count) e
+    by None e = is other e
+    by (Some l) e = past (ltb (file_set_ref k) k.map_count) e
       where
         past : (t : Bool) → pick t (answered (mount_from_starts how.checked k (each_of k.map_count (λ i. get_or l i 0)))) (refused Unsupported) ≡ refused r → P r
         past true e = never (sym e)
@@ -323,19 +257,19 @@ each_at n f (suc (suc (suc zero))) l h = rw (lt-ltb 3 n h)
 each_at n f (suc (suc (suc (suc i)))) l h = absurd (omega arith)
 
 -- a start of several
-starts-at : (how : How) (ps : List Parsed) (maps : List ℕ) (i n : ℕ) {l : List ℕ} → starts_from how ps maps i n ≡ some l → (j : ℕ) → j < n
-    → start_of_map how ps (map_at maps (i + j)) ≡ some (get_or l j 0)
+starts-at : (how : How) (ps : List Parsed) (maps : List ℕ) (i n : ℕ) {l : List ℕ} → starts_from how ps maps i n ≡ Some l → (j : ℕ) → j < n
+    → start_of_map how ps (map_at maps (i + j)) ≡ Some (get_or l j 0)
 unfolding starts_from
 starts-at how ps maps i zero e j h = absurd (omega arith)
 starts-at how ps maps i (suc n) {l} e j h = by (start_of_map how ps (map_at maps i)) refl (starts_from how ps maps (i + 1) n) (λ rest q. starts-at how ps maps (i + 1) n {l = rest} q) e j h
   where
     by : (o : Option ℕ) → start_of_map how ps (map_at maps i) ≡ o → (r : Option (List ℕ))
-        → ((rest : List ℕ) → r ≡ some rest → (j : ℕ) → j < n → start_of_map how ps (map_at maps (i + 1 + j)) ≡ some (get_or rest j 0))
-        → start_then o r ≡ some l → (j : ℕ) → j < suc n → start_of_map how ps (map_at maps (i + j)) ≡ some (get_or l j 0)
-    by none p r f g j h = absurd (let z : ◌≡◌ {A = ℕ} 0 1 = cc in omega arith)
-    by (some s) p none f g j h = absurd (let z : ◌≡◌ {A = ℕ} 0 1 = cc in omega arith)
-    by (some s) p (some rest) f g zero h = let z : s ∷ rest ≡ l = cc in rw (← z, add-zero) p
-    by (some s) p (some rest) f g (suc j) h =
+        → ((rest : List ℕ) → r ≡ Some rest → (j : ℕ) → j < n → start_of_map how ps (map_at maps (i + 1 + j)) ≡ Some (get_or rest j 0))
+        → start_then o r ≡ Some l → (j : ℕ) → j < suc n → start_of_map how ps (map_at maps (i + j)) ≡ Some (get_or l j 0)
+    by None p r f g j h = absurd (let z : ◌≡◌ {A = ℕ} 0 1 = cc in omega arith)
+    by (Some s) p None f g j h = absurd (let z : ◌≡◌ {A = ℕ} 0 1 = cc in omega arith)
+    by (Some s) p (Some rest) f g zero h = let z : s ∷ rest ≡ l = cc in rw (← z, add-zero) p
+    by (Some s) p (Some rest) f g (suc j) h =
         let z : s ∷ rest ≡ l = cc in
         let a : i + suc j ≡ i + 1 + j = omega arith in
         rw (← z, a) (f rest refl j (omega arith))
@@ -343,18 +277,18 @@ starts-at how ps maps i (suc n) {l} e j h = by (start_of_map how ps (map_at maps
 -- a map that has a start
 record Plain (how : How) (ps : List Parsed) (b : List ℕ) (s : ℕ) : Type 0 where
   type : is_plain_map b ≡ true
-  start : start_of_number how ps (number_of_map b) ≡ some s
+  start : start_of_number how ps (number_of_map b) ≡ Some s
 
-map-plain : (how : How) (ps : List Parsed) (b : List ℕ) {s : ℕ} → start_of_map how ps b ≡ some s → Plain how ps b s
+map-plain : (how : How) (ps : List Parsed) (b : List ℕ) {s : ℕ} → start_of_map how ps b ≡ Some s → Plain how ps b s
 map-plain how ps b {s} e =
-    let p = picked (λ (o : Option ℕ). o ≡ some s) (is_plain_map b) (start_of_number how ps (number_of_map b)) none e (λ h. let z : ◌≡◌ {A = ℕ} 0 1 = cc in omega arith) in
+    let p = picked (λ (o : Option ℕ). o ≡ Some s) (is_plain_map b) (start_of_number how ps (number_of_map b)) None e (λ h. let z : ◌≡◌ {A = ℕ} 0 1 = cc in omega arith) in
     record { type = p.0; start = p.1 }
 
 module _ (how : How) (ps : List Parsed) (k : Kept) {m : Mount} where
   mounted-is : k.map_count ≤ 4 → 6 * k.map_count ≤ k.map_table_length → 440 + k.map_table_length ≤ 2048 → (o : Option (List ℕ)) → map_starts how ps k k.map_count ≡ o
       → mounted_by how.checked k o ≡ answered m → Mapped how ps k m
-  mounted-is few table sector none p e = never e
-  mounted-is few table sector (some l) p e = by (ltb (file_set_ref k) k.map_count) refl e
+  mounted-is few table sector None p e = never e
+  mounted-is few table sector (Some l) p e = by (ltb (file_set_ref k) k.map_count) refl e
     where
       at : (i : ℕ) → i < k.map_count → Plain how ps (map_in k i) (get_or l i 0)
       at i h = map-plain how ps (map_in k i) (rw zero-add at (starts-at how ps k.maps 0 k.map_count p i h))
@@ -407,7 +341,7 @@ module _ (how : How) (ps : List Parsed) (k : Kept) {m : Mount} where
       by false h = let z : answered m ≡ answered (plain_mount how.checked k) = sym e ∙ unmapped-mount how ps k h in let w : m ≡ plain_mount how.checked k = cc in rw w
 
   -- so the file set descriptor of a volume with maps stands in its map's partition
-  pub mapped-stands : Mapped how ps k m → file_set_in m k ≡ some (m.start + k.file_set.location.block)
+  pub mapped-stands : Mapped how ps k m → file_set_in m k ≡ Some (m.start + k.file_set.location.block)
   unfolding placed start_for mapped_start
   mapped-stands p =
       let a : m.maps ≡ 0 → ⊥ = λ z. let o = p.one in omega arith in

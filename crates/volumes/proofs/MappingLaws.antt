@@ -1,8 +1,8 @@
 -- What the opening through the maps refuses is the first of its checks that fails, and nothing else. Assumes nothing.
+use Rattle.std.specs.Prelude.{Option, Some, None}
 use mathlib.Core.Path.{◌≡◌, refl, ap, sym, ◌∙◌}
 use mathlib.Core.Bool.{Bool, true, false, not}
 use mathlib.Core.List.{List, [], ◌∷◌, ◌++◌, append-nil}
-use mathlib.Core.Option.{Option, none, some}
 use Prim.Native.Nat.{ℕ, zero, suc, ◌+◌, ◌*◌, min}
 use native.Mathlib.Omega.{arith}
 use lib.ListN.{length, get_or, length-append}
@@ -94,21 +94,21 @@ module _ (how : How) (ps : List Parsed) (n : ℕ) where
   unfolding start_of_number
   numbered-start = by (kept_of (order_of how) (eqb n) nothing ps).has_partition (kept_of (order_of how) (eqb n) nothing ps).partition_start ∙ has_all (order_of how) n nothing ps
     where
-      by : (h : Bool) (s : ℕ) → is_there (pick h (some s) none) ≡ h
+      by : (h : Bool) (s : ℕ) → is_there (pick h (Some s) None) ≡ h
       by true s = refl
       by false s = refl
 
   -- where no start is found for a number, no partition descriptor of the sequence has it
-  pub started_none : start_of_number how ps n ≡ none → is_numbered n ps ≡ false
+  pub started_none : start_of_number how ps n ≡ None → is_numbered n ps ≡ false
   started_none e = sym numbered-start ∙ ap is_there e
 
   -- and where none has it, none is found
-  pub unnumbered-none : is_numbered n ps ≡ false → start_of_number how ps n ≡ none
+  pub unnumbered-none : is_numbered n ps ≡ false → start_of_number how ps n ≡ None
   unnumbered-none e = by (start_of_number how ps n) (numbered-start ∙ e)
     where
-      by : (o : Option ℕ) → is_there o ≡ false → o ≡ none
-      by none h = refl
-      by (some s) h = not-both (sym h)
+      by : (o : Option ℕ) → is_there o ≡ false → o ≡ None
+      by None h = refl
+      by (Some s) h = not-both (sym h)
 
 -- ---- the maps
 
@@ -121,14 +121,14 @@ unnumbered ps b = not (is_numbered (number_of_map b) ps)
 map-there : (how : How) (ps : List Parsed) (b : List ℕ) → is_there (start_of_map how ps b) ≡ pick (is_plain_map b) (is_numbered (number_of_map b) ps) false
 map-there how ps b = by (is_plain_map b)
   where
-    by : (t : Bool) → is_there (pick t (start_of_number how ps (number_of_map b)) none) ≡ pick t (is_numbered (number_of_map b) ps) false
+    by : (t : Bool) → is_there (pick t (start_of_number how ps (number_of_map b)) None) ≡ pick t (is_numbered (number_of_map b) ps) false
     by true = numbered-start how ps (number_of_map b)
     by false = refl
 
 then-there : (o : Option ℕ) (r : Option (List ℕ)) → is_there (start_then o r) ≡ pick (is_there o) (is_there r) false
-then-there none r = refl
-then-there (some s) none = refl
-then-there (some s) (some l) = refl
+then-there None r = refl
+then-there (Some s) None = refl
+then-there (Some s) (Some l) = refl
 
 starts-there : (how : How) (ps : List Parsed) (maps : List ℕ) (i n : ℕ) → is_there (starts_from how ps maps i n) ≡ pick (any_map other maps i n) false (not (any_map (unnumbered ps) maps i n))
 unfolding starts_from any_map
@@ -147,17 +147,17 @@ starts-there how ps maps i (suc n) =
 -- ---- the mount
 
 module _ (how : How) (ps : List Parsed) (k : Kept) where
-  past : (l : List ℕ) → refusal_of (mounted_by how.checked k (some l)) ≡ pick (leb k.map_count (file_set_ref k)) (some Unsupported) none
+  past : (l : List ℕ) → refusal_of (mounted_by how.checked k (Some l)) ≡ pick (leb k.map_count (file_set_ref k)) (Some Unsupported) None
   past l = by (ltb (file_set_ref k) k.map_count) refl
     where
       by : (t : Bool) → ltb (file_set_ref k) k.map_count ≡ t
-          → refusal_of (pick t (answered (mount_from_starts how.checked k (each_of k.map_count (λ i. get_or l i 0)))) (refused Unsupported)) ≡ pick (leb k.map_count (file_set_ref k)) (some Unsupported) none
+          → refusal_of (pick t (answered (mount_from_starts how.checked k (each_of k.map_count (λ i. get_or l i 0)))) (refused Unsupported)) ≡ pick (leb k.map_count (file_set_ref k)) (Some Unsupported) None
       by true e = rw (lt-leb k.map_count (file_set_ref k) (ltb-true (file_set_ref k) k.map_count e))
       by false e = rw (le-leb k.map_count (file_set_ref k) (ltb-false (file_set_ref k) k.map_count e))
 
-  mounted-refusal : (o : Option (List ℕ)) → refusal_of (mounted_by how.checked k o) ≡ pick (is_there o) (pick (leb k.map_count (file_set_ref k)) (some Unsupported) none) (some Unsupported)
-  mounted-refusal none = refl
-  mounted-refusal (some l) = past l
+  mounted-refusal : (o : Option (List ℕ)) → refusal_of (mounted_by how.checked k o) ≡ pick (is_there o) (pick (leb k.map_count (file_set_ref k)) (Some Unsupported) None) (Some Unsupported)
+  mounted-refusal None = refl
+  mounted-refusal (Some l) = past l
 
   -- what is refused of the maps is the first of their checks that fails
   pub mapped-refusal : refusal_of (mapped_mount how ps k) ≡ first_of (map_checks ps k)
@@ -170,17 +170,17 @@ module _ (how : How) (ps : List Parsed) (k : Kept) where
       y : Bool
       y = any_map (unnumbered ps) k.maps 0 k.map_count
 
-      maps : (x y : Bool) (last : Option Refusal) → pick (pick x false (not y)) last (some Unsupported) ≡ pick x (some Unsupported) (pick y (some Unsupported) last)
+      maps : (x y : Bool) (last : Option Refusal) → pick (pick x false (not y)) last (Some Unsupported) ≡ pick x (Some Unsupported) (pick y (Some Unsupported) last)
       maps true y last = refl
       maps false true last = refl
       maps false false last = refl
 
-      rest : refusal_of (mounted_by how.checked k (map_starts how ps k k.map_count)) ≡ pick x (some Unsupported) (pick y (some Unsupported) (pick (leb k.map_count (file_set_ref k)) (some Unsupported) none))
-      rest = mounted-refusal (map_starts how ps k k.map_count) ∙ rw (starts-there how ps k.maps 0 k.map_count) (maps x y (pick (leb k.map_count (file_set_ref k)) (some Unsupported) none))
+      rest : refusal_of (mounted_by how.checked k (map_starts how ps k k.map_count)) ≡ pick x (Some Unsupported) (pick y (Some Unsupported) (pick (leb k.map_count (file_set_ref k)) (Some Unsupported) None))
+      rest = mounted-refusal (map_starts how ps k k.map_count) ∙ rw (starts-there how ps k.maps 0 k.map_count) (maps x y (pick (leb k.map_count (file_set_ref k)) (Some Unsupported) None))
 
       by : (a b c : Bool)
           → refusal_of (pick a (refused Unsupported) (pick b (refused Malformed) (pick c (refused Malformed) (mounted_by how.checked k (map_starts how ps k k.map_count)))))
-          ≡ pick a (some Unsupported) (pick b (some Malformed) (pick c (some Malformed) (pick x (some Unsupported) (pick y (some Unsupported) (pick (leb k.map_count (file_set_ref k)) (some Unsupported) none)))))
+          ≡ pick a (Some Unsupported) (pick b (Some Malformed) (pick c (Some Malformed) (pick x (Some Unsupported) (pick y (Some Unsupported) (pick (leb k.map_count (file_set_ref k)) (Some Unsupported) None)))))
       by true b c = refl
       by false true c = refl
       by false false true = refl
@@ -193,22 +193,22 @@ module _ (how : How) (ps : List Parsed) (k : Kept) (h : how.maps ≡ true) where
   unfolding mount_of
   mapped-is = sym (pick_yes (Outcome Mount) how.maps how.maps (mapped_mount how ps k) _ _ refl h refl)
 
-  stops : {r : Refusal} → first_of (map_checks ps k) ≡ some r → mount_of how ps k ≡ refused r
+  stops : {r : Refusal} → first_of (map_checks ps k) ≡ Some r → mount_of how ps k ≡ refused r
   stops {r} e = mapped-is ∙ by (mapped_mount how ps k) (mapped-refusal how ps k ∙ e)
     where
-      by : (x : Outcome Mount) → refusal_of x ≡ some r → x ≡ refused r
+      by : (x : Outcome Mount) → refusal_of x ≡ Some r → x ≡ refused r
       by (answered m) q = absurd (let z : ◌≡◌ {A = ℕ} 0 1 = cc in omega arith)
       by (refused w) q = let z : w ≡ r = cc in rw z
 
-  mounting-refused : {r : Refusal} → first_of (kept_checks k ++ map_checks ps k) ≡ some r → mounting_of how ps k ≡ refuse r
+  mounting-refused : {r : Refusal} → first_of (kept_checks k ++ map_checks ps k) ≡ Some r → mounting_of how ps k ≡ refuse r
   unfolding mounting_of first_of then
   mounting-refused {r} = by k.has_primary k.has_partition k.has_logical (eqb k.block_size 2048)
     where
-      is : {w : Refusal} → ◌≡◌ {A = Option Refusal} (some w) (some r) → ◌≡◌ {A = Ask VolumeRecord} (refuse w) (refuse r)
+      is : {w : Refusal} → ◌≡◌ {A = Option Refusal} (Some w) (Some r) → ◌≡◌ {A = Ask VolumeRecord} (refuse w) (refuse r)
       is {w} q = let z : w ≡ r = cc in rw z
 
       by : (t u w x : Bool)
-          → pick (not t) (some NotBluray) (pick (not u) (some NotBluray) (pick (not w) (some NotBluray) (pick (not x) (some Unsupported) (first_of (map_checks ps k))))) ≡ some r
+          → pick (not t) (Some NotBluray) (pick (not u) (Some NotBluray) (pick (not w) (Some NotBluray) (pick (not x) (Some Unsupported) (first_of (map_checks ps k))))) ≡ Some r
           → pick t (pick u (pick w (pick x (then (ended (mount_of how ps k)) (file_set_on how.checked k)) (refuse Unsupported)) (refuse NotBluray)) (refuse NotBluray)) (refuse NotBluray) ≡ refuse r
       by true true true true e = rw (stops e)
       by true true true false e = is e
@@ -220,13 +220,13 @@ module _ (how : How) (ps : List Parsed) (k : Kept) (h : how.maps ≡ true) where
   abbrev at : ℕ
   at = start_or (start_of_number how ps (number_of_map (map_in k (file_set_ref k)))) + k.file_set.location.block
 
-  placed_at : {m : Mount} → mount_of how ps k ≡ answered m → file_set_in m k ≡ some at
+  placed_at : {m : Mount} → mount_of how ps k ≡ answered m → file_set_in m k ≡ Some at
   unfolding placed start_for mapped_start
   placed_at {m} e =
       let w = mapped-mount how ps k h e in
       let mapped : eqb m.maps 0 ≡ false = ne_eqb m.maps 0 (λ z. omega (arith, w.one)) in
       let low : ltb (file_set_ref k) (min m.maps 4) ≡ true = lt-ltb (file_set_ref k) (min m.maps 4) (omega (arith, w.reference, w.few)) in
-      let s : start_of_number how ps (number_of_map (map_in k (file_set_ref k))) ≡ some (get_or m.starts (file_set_ref k) 0) = rw (w.numbered (file_set_ref k) w.reference) at (w.started (file_set_ref k) w.reference) in
+      let s : start_of_number how ps (number_of_map (map_in k (file_set_ref k))) ≡ Some (get_or m.starts (file_set_ref k) 0) = rw (w.numbered (file_set_ref k) w.reference) at (w.started (file_set_ref k) w.reference) in
       rw (mapped, low, s)
 
   module _ (d : Disc) where
@@ -243,23 +243,23 @@ module _ (how : How) (ps : List Parsed) (k : Kept) (h : how.maps ≡ true) where
         by (holds b) = ended-asks (volume_in m k (read_file_set how.checked b))
         by lacks = refl
 
-    goes : first_of (map_checks ps k) ≡ none → asked d (then (ended (mount_of how ps k)) (file_set_on how.checked k)) ≡ at ∷ []
+    goes : first_of (map_checks ps k) ≡ None → asked d (then (ended (mount_of how ps k)) (file_set_on how.checked k)) ≡ at ∷ []
     unfolding then
     goes e = by (mount_of how ps k) refl (ap refusal_of mapped-is ∙ mapped-refusal how ps k ∙ e)
       where
-        by : (x : Outcome Mount) → mount_of how ps k ≡ x → refusal_of x ≡ none → asked d (then (ended x) (file_set_on how.checked k)) ≡ at ∷ []
+        by : (x : Outcome Mount) → mount_of how ps k ≡ x → refusal_of x ≡ None → asked d (then (ended x) (file_set_on how.checked k)) ≡ at ∷ []
         by (answered m) q n = rw (placed_at q) (reads-once m at)
         by (refused w) q n = absurd (let z : ◌≡◌ {A = ℕ} 0 1 = cc in omega arith)
 
-    mounting-asks : first_of (kept_checks k ++ map_checks ps k) ≡ none → asked d (mounting_of how ps k) ≡ at ∷ []
+    mounting-asks : first_of (kept_checks k ++ map_checks ps k) ≡ None → asked d (mounting_of how ps k) ≡ at ∷ []
     unfolding mounting_of first_of
     mounting-asks = by k.has_primary k.has_partition k.has_logical (eqb k.block_size 2048)
       where
-        not_none : {w : Refusal} {A : Type 0} → ◌≡◌ {A = Option Refusal} (some w) none → A
+        not_none : {w : Refusal} {A : Type 0} → ◌≡◌ {A = Option Refusal} (Some w) None → A
         not_none q = absurd (let z : ◌≡◌ {A = ℕ} 0 1 = cc in omega arith)
 
         by : (t u w x : Bool)
-            → pick (not t) (some NotBluray) (pick (not u) (some NotBluray) (pick (not w) (some NotBluray) (pick (not x) (some Unsupported) (first_of (map_checks ps k))))) ≡ none
+            → pick (not t) (Some NotBluray) (pick (not u) (Some NotBluray) (pick (not w) (Some NotBluray) (pick (not x) (Some Unsupported) (first_of (map_checks ps k))))) ≡ None
             → asked d (pick t (pick u (pick w (pick x (then (ended (mount_of how ps k)) (file_set_on how.checked k)) (refuse Unsupported)) (refuse NotBluray)) (refuse NotBluray)) (refuse NotBluray)) ≡ at ∷ []
         by true true true true e = goes e
         by true true true false e = not_none e
@@ -290,7 +290,7 @@ module _ (d : Disc) (how : How) (h : how.maps ≡ true) {ps : List Parsed} (e : 
   first = first_of (mapped_checks how ps)
 
   -- where a check fails, opening is refused by the first that does, and has asked for the sectors of the sequence alone
-  pub mapped-refused : {r : Refusal} → first_of (mapped_checks how ps) ≡ some r → (outcome d (opening how) ≡ refused r) × (asked d (opening how) ≡ asked d (sequence how.checked))
+  pub mapped-refused : {r : Refusal} → first_of (mapped_checks how ps) ≡ Some r → (outcome d (opening how) ≡ refused r) × (asked d (opening how) ≡ asked d (sequence how.checked))
   mapped-refused {r} q =
       let stop : chosen how ps ≡ refuse r = mounting-refused how ps k h q in (
         ap (outcome d) (opening-is how) ∙ then-outcome d (sequence how.checked) (chosen how) e ∙ ap (outcome d) stop ∙ refuse-outcome d r,
@@ -298,15 +298,15 @@ module _ (d : Disc) (how : How) (h : how.maps ≡ true) {ps : List Parsed} (e : 
       )
 
   -- where none fails, it asks for the file set descriptor's sector besides
-  pub mapped-asks : first_of (mapped_checks how ps) ≡ none → asked d (opening how) ≡ asked d (sequence how.checked) ++ file_set_sector how ps ∷ []
+  pub mapped-asks : first_of (mapped_checks how ps) ≡ None → asked d (opening how) ≡ asked d (sequence how.checked) ++ file_set_sector how ps ∷ []
   mapped-asks q = (scan-same d how).asks ∙ rw e (ap (λ l. asked d (sequence how.checked) ++ l) (mounting-asks how ps k h d q))
 
   -- so a refusal that comes before that sector is asked for is that of the first check that fails
-  pub mapped-only : {r : Refusal} → outcome d (opening how) ≡ refused r → asked d (opening how) ≡ asked d (sequence how.checked) → first_of (mapped_checks how ps) ≡ some r
+  pub mapped-only : {r : Refusal} → outcome d (opening how) ≡ refused r → asked d (opening how) ≡ asked d (sequence how.checked) → first_of (mapped_checks how ps) ≡ Some r
   mapped-only {r} o a = by first refl
     where
-      by : (x : Option Refusal) → first ≡ x → x ≡ some r
-      by none q =
+      by : (x : Option Refusal) → first ≡ x → x ≡ Some r
+      by None q =
           let l = ap length (sym (mapped-asks q) ∙ a) in
           absurd (omega (arith, l, length-append (asked d (sequence how.checked)) (file_set_sector how ps ∷ [])))
-      by (some w) q = let z : refused w ≡ refused r = sym (mapped-refused q).0 ∙ o in cc
+      by (Some w) q = let z : refused w ≡ refused r = sym (mapped-refused q).0 ∙ o in cc

@@ -1,8 +1,8 @@
 -- Opening answers with no label but one that is a name, so the label call refuses as opening does. Assumes nothing.
+use Rattle.std.specs.Prelude.{Option, Some, None, Result, Ok, Err}
 use mathlib.Core.Path.{◌≡◌, refl}
 use mathlib.Core.Bool.{Bool, true, false}
 use mathlib.Core.List.{List, [], ◌∷◌}
-use mathlib.Core.Option.{Option, none, some}
 use Prim.Native.Nat.{ℕ, zero, suc, ◌+◌}
 use native.Mathlib.Omega.{arith}
 use lib.Dec.{eqb}
@@ -21,13 +21,9 @@ use Rattle.records.specs.Bytes.{u16at}
 use Rattle.names.specs.Names.{name_of, name_of_field}
 use Rattle.descriptors.specs.Volumes.{read_anchor, read_partition, read_primary, read_logical}
 use Rattle.descriptors.specs.FileSets.{read_file_set}
-use Rattle.descriptors.specs.declared.anchors.AnchorRead.{AnchorRead}
-use Rattle.descriptors.specs.declared.anchors.AnchorRead.TheVariants.{Read as AnAnchor, Refused as NoAnchor}
 use Rattle.descriptors.specs.declared.primaries.PrimaryVolumeDescriptor.{PrimaryVolumeDescriptor}
 use Rattle.descriptors.specs.declared.logicals.LogicalVolumeDescriptor.{LogicalVolumeDescriptor}
 use Rattle.descriptors.specs.declared.file_sets.FileSetDescriptor.{FileSetDescriptor}
-use Rattle.descriptors.specs.declared.partitions.PartitionRead.{PartitionRead}
-use Rattle.descriptors.specs.declared.partitions.PartitionRead.TheVariants.{Read as APartition, Refused as NoPartition}
 use Rattle.descriptors.proofs.AnswerLaws.{primary-good}
 use Rattle.volumes.specs.declared.sequences.Kept.{Kept}
 use Rattle.volumes.specs.declared.openings.VolumeRecord.{VolumeRecord}
@@ -37,6 +33,8 @@ use Rattle.volumes.specs.Sequences.Parsed.{primary, partition, logical}
 use Rattle.volumes.specs.Sequences.Says.{found, passed, over, fails}
 use Rattle.volumes.specs.Openings.{mount_of, file_set_in, volume_in, file_set_on, mounting_of, mounting, anchored, opening}
 use Rattle.disc.specs.Refusing.{Only}
+use Rattle.descriptors.specs.declared.partitions.PartitionDescriptor.{PartitionDescriptor}
+use Rattle.descriptors.specs.declared.anchors.AnchorVolumeDescriptorPointer.{AnchorVolumeDescriptorPointer}
 
 -- ---- a tree that answers with nothing but what is Q
 
@@ -104,9 +102,9 @@ says-labelled check b {p} = by (eqb (u16at b 0) 1) (eqb (u16at b 0) 5) (eqb (u16
         rw (← q) (record { value = g.name; is = g.named })
     first (refused r) h e = absurd (let z : ◌≡◌ {A = ℕ} 0 1 = cc in omega arith)
 
-    parted : (x : PartitionRead) → partition_in x ≡ found p → Labelled p
-    parted (APartition d) e = let q : partition d ≡ p = cc in rw (← q) tt
-    parted (NoPartition r) e = absurd (let z : ◌≡◌ {A = ℕ} 0 1 = cc in omega arith)
+    parted : (x : Result PartitionDescriptor Refusal) → partition_in x ≡ found p → Labelled p
+    parted (Ok d) e = let q : partition d ≡ p = cc in rw (← q) tt
+    parted (Err r) e = absurd (let z : ◌≡◌ {A = ℕ} 0 1 = cc in omega arith)
 
     whole : (x : Outcome LogicalVolumeDescriptor) → logical_in x ≡ found p → Labelled p
     whole (answered d) e = let q : logical d ≡ p = cc in rw (← q) tt
@@ -144,8 +142,8 @@ mounting-named how ps k h = by k.has_primary k.has_partition k.has_logical (eqb 
     set m (refused r) = tt
 
     stands : (m : Mount) (o : Option ℕ) → Answers Titled (standing o (λ s. ask s (λ b. ended (volume_in m k (read_file_set how.checked b)))))
-    stands m none = tt
-    stands m (some s) = λ b. set m (read_file_set how.checked b)
+    stands m None = tt
+    stands m (Some s) = λ b. set m (read_file_set how.checked b)
 
     mounted : (x : Outcome Mount) → Answers Titled (then (ended x) (file_set_on how.checked k))
     mounted (answered m) = stands m (file_set_in m k)
@@ -162,8 +160,8 @@ pub opening-named : (how : How) → Answers Titled (opening how)
 unfolding Only opening
 opening-named how = λ b. by (read_anchor how.checked b)
   where
-    by : (x : AnchorRead) → Answers Titled (anchored how x)
-    by (NoAnchor r) = tt
-    by (AnAnchor a) =
+    by : (x : Result AnchorVolumeDescriptorPointer Refusal) → Answers Titled (anchored how x)
+    by (Err r) = tt
+    by (Ok a) =
         only_then (λ why. Unit {0}) AllLabelled Titled (scan how.checked _ _) (mounting how) (scan-labelled how.checked _ _)
         (λ ps l. mounting-named how ps (kept_of (order_of how) any_partition nothing ps) (kept-named (order_of how) any_partition nothing ps nothing-named l))

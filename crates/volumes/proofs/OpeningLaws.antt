@@ -1,16 +1,17 @@
 -- Laws of opening: how the descriptors that were kept lead to a volume, and how the scan and what follows it are one call.
 -- Assumes nothing.
+use Rattle.std.specs.Prelude.{Option, Some, None, Result, Ok, Err}
 use mathlib.Core.Path.{◌≡◌, refl, ap, sym, ◌∙◌}
 use mathlib.Core.Bool.{Bool, true, false}
 use mathlib.Core.List.{List, ◌∷◌}
-use mathlib.Core.Option.{Option, none, some}
 use Prim.Native.Nat.{ℕ, zero, suc, ◌+◌, ◌-◌, ◌*◌, ◌/◌, ◌<◌, ◌≤◌, ◌^◌}
 use native.Mathlib.Omega.{arith}
-use lib.ListN.{length, replicate}
+use lib.ListN.{length}
 use lib.Dec.{eqb}
 use Rattle.disc.specs.Choice.{pick}
 use Rattle.disc.specs.Refusals.{number}
 use Rattle.disc.specs.Counts.{reported}
+use Rattle.disc.specs.Replies.{returned}
 use Rattle.disc.specs.Ask.{Held, Disc, Ask, Outcome, bytes_in, then, ended}
 use Rattle.disc.specs.Ask.Ask.{done, refuse, ask}
 use Rattle.disc.specs.Ask.Held.{holds, lacks}
@@ -20,62 +21,26 @@ use Rattle.disc.specs.Images.{disc, held_from}
 use Rattle.disc.specs.Places.{standing, BlockStands}
 use Rattle.disc.specs.declared.places.Mount.{Mount}
 use Rattle.disc.specs.declared.places.Sector.{Sector}
-use Rattle.disc.specs.declared.places.PartitionRef.TheVariants.{Named}
-use Rattle.disc.specs.declared.places.Placed.{Placed}
-use Rattle.disc.specs.declared.places.Placed.TheVariants.{At, Nowhere}
 use Rattle.disc.specs.declared.refusals.Refusal.{Refusal}
 use Rattle.disc.specs.declared.refusals.Refusal.TheVariants.{NotBluray, Unsupported}
-use Rattle.disc.proofs.RefusalLaws.{refusal-numbered}
-use Rattle.disc.proofs.PlaceLaws.{stands-nowhere, stands_at}
+use Rattle.disc.proofs.PlaceLaws.{stands-nowhere}
 use Rattle.disc.proofs.RanLaws.{ran-done, ran-refuse, ran-there, ran-missing, ran_then, ran-ended}
 use Rattle.disc.proofs.ImageLaws.{held, missing}
-use Rattle.records.specs.Allocations.{no_long}
-use Rattle.records.specs.declared.allocations.LongAd.{LongAd}
 use Rattle.descriptors.specs.Volumes.{read_anchor}
-use Rattle.descriptors.specs.FileSets.{read_file_set, file_set_read}
+use Rattle.descriptors.specs.FileSets.{read_file_set}
 use Rattle.descriptors.specs.declared.anchors.AnchorVolumeDescriptorPointer.{AnchorVolumeDescriptorPointer}
-use Rattle.descriptors.specs.declared.anchors.AnchorRead.{AnchorRead}
-use Rattle.descriptors.specs.declared.anchors.AnchorRead.TheVariants.{Read as AnAnchor, Refused as NoAnchor}
-use Rattle.descriptors.specs.declared.file_sets.FileSetDescriptor.{FileSetDescriptor}
-use Rattle.descriptors.specs.declared.file_sets.FileSetRead.{FileSetRead}
 use Rattle.volumes.specs.Sequences.{nothing, Parsed, order_of, any_partition, kept_of, Says, says_in, go_on, scan, scanned_by, scanned_of}
 use Rattle.volumes.specs.Sequences.Says.{found, passed, over, fails}
-use Rattle.volumes.specs.Openings.{no_mount, no_volume, file_set_ref, mount_of, file_set_in, volume_in, file_set_at, file_set_on, mounting_of, mounting, anchored, opening, opened_by, opened_of}
-use Rattle.volumes.specs.Inner.Steps.{mountable, parsed_in, scanned_in, mount_read}
+use Rattle.volumes.specs.Openings.{no_volume, file_set_ref, mount_of, file_set_in, volume_in, file_set_at, file_set_on, mounting_of, mounting, anchored, opening, opened_by, opened_of}
+use Rattle.volumes.specs.Inner.Steps.{mountable, mount_behind, parsed_in, scanned_in}
 use Rattle.volumes.specs.declared.sequences.Kept.{Kept}
 use Rattle.volumes.specs.declared.sequences.Scanned.{Scanned}
-use Rattle.volumes.specs.declared.mounts.MountRead.{MountRead}
 use Rattle.volumes.specs.declared.openings.VolumeRecord.{VolumeRecord}
 use Rattle.volumes.specs.declared.openings.Opened.{Opened}
 use Rattle.volumes.specs.declared.openings.How.{How}
 use Rattle.volumes.specs.Made.{main_length_in}
 
--- the return of `no_volume`
-pub volume-none : {mount : Mount} {root : LongAd} → mount ≡ no_mount → root ≡ no_long → record { mount = mount; root = root; label = replicate 32 0 } ≡ no_volume
-volume-none e f = rw (e, f)
-
 -- ---- the sector of the file set descriptor
-
-module _ (check : Bool) (k : Kept) (m : Mount) (b : List ℕ) (n : ℕ) {r : FileSetRead} (e : r ≡ file_set_read (read_file_set check b)) where
-  pub volume-not : {o : Opened} → (r.answer ≡ 0 → ⊥) → o ≡ record { answer = r.answer; count = n; volume = no_volume } → o ≡ opened_by n (volume_in m k (read_file_set check b))
-  volume-not {o} h q = told (read_file_set check b) e
-    where
-      told : (d : Outcome FileSetDescriptor) → r ≡ file_set_read d → o ≡ opened_by n (volume_in m k d)
-      told (answered d) p = absurd (h (ap (λ (x : FileSetRead). x.answer) p))
-      told (refused why) p = q ∙ rw p
-
-  pub volume-is : {o : Opened} → r.answer ≡ 0
-      → o ≡ record {
-        answer = 0;
-        count = n;
-        volume = record { mount = m; root = r.descriptor.root_directory_icb; label = k.label };
-      }
-      → o ≡ opened_by n (volume_in m k (read_file_set check b))
-  volume-is {o} h q = told (read_file_set check b) e
-    where
-      told : (d : Outcome FileSetDescriptor) → r ≡ file_set_read d → o ≡ opened_by n (volume_in m k d)
-      told (answered d) p = q ∙ rw p
-      told (refused why) p = absurd (refusal-numbered why (rw p at h))
 
 -- the file set descriptor in a sector
 module _ (check : Bool) (image : List ℕ) (k : Kept) (v : Mount) (n : ℕ) (few : n < 2 ^ 32) (s : ℕ) {m : ℕ} (g : m ≡ held_from image s) where
@@ -113,70 +78,47 @@ refused-after d r n e q h k =
     rw (e, ran-refuse d r, c, ← q) k
 
 -- where the file set descriptor stands
-module _ (check : Bool) (image : List ℕ) (k : Kept) (m : Mount) (n : ℕ) {p : Placed} (q : BlockStands m (Named (file_set_ref k)) k.file_set.location.block p) where
-  pub mount-nowhere : n < 2 ^ 32 → p ≡ Nowhere → {o : Opened} → o ≡ record { answer = 4; count = n; volume = no_volume } → o ≡ opened_of (after n (ran (disc image) (file_set_on check k m)))
-  mount-nowhere few z g = refused-after (disc image) Unsupported n (rw (stands-nowhere m (Named (file_set_ref k)) k.file_set.location.block q z)) refl few g
-
-  pub mount-there : {s : Sector} → p ≡ At s → {o : Opened} → o ≡ opened_of (after n (ran (disc image) (file_set_at check k m s.0))) → o ≡ opened_of (after n (ran (disc image) (file_set_on check k m)))
-  mount-there z g = g ∙ rw (stands_at m (Named (file_set_ref k)) k.file_set.location.block q z)
+module _ (check : Bool) (image : List ℕ) (k : Kept) (m : Mount) (n : ℕ) {p : Option Sector} (q : BlockStands m (Some (file_set_ref k)) k.file_set.location.block p) where
+  pub mount-nowhere : n < 2 ^ 32 → p ≡ None → {o : Opened} → o ≡ record { answer = 4; count = n; volume = no_volume } → o ≡ opened_of (after n (ran (disc image) (file_set_on check k m)))
+  mount-nowhere few z g = refused-after (disc image) Unsupported n (rw (stands-nowhere m (Some (file_set_ref k)) k.file_set.location.block q z)) refl few g
 
 -- ---- what was kept, and what follows it
 
--- a call goes on as m, or is refused; n is the number of the refusal, or 0
-data Mounts (m x : Ask VolumeRecord) (n : ℕ) : Type 0 where
-  goes : x ≡ m → n ≡ 0 → Mounts m x n
-  stops : (r : Refusal) → x ≡ refuse r → n ≡ number r → Mounts m x n
+-- behind the mount that what was kept leads to
+abbrev pub mounted_by : How → Kept → Result Mount Refusal → Ask VolumeRecord
+mounted_by how k (Ok m) = file_set_on how.checked k m
+mounted_by how k (Err r) = refuse r
 
--- how the volume is read, and its file set descriptor
-abbrev pub mounted_on : How → List Parsed → Kept → Ask VolumeRecord
-mounted_on how ps k = then (ended (mount_of how ps k)) (file_set_on how.checked k)
-
-mounts : (how : How) (ps : List Parsed) (k : Kept) → Mounts (mounted_on how ps k) (mounting_of how ps k) (mountable k)
-unfolding mounting_of mountable
-mounts how ps k = by k.has_primary k.has_partition k.has_logical (eqb k.block_size 2048) (mounted_on how ps k)
+mounts : (how : How) (ps : List Parsed) (k : Kept) → mounting_of how ps k ≡ mounted_by how k (mount_behind (mountable k) (returned (mount_of how ps k)))
+unfolding mounting_of mountable then
+mounts how ps k = by k.has_primary k.has_partition k.has_logical (eqb k.block_size 2048) (mount_of how ps k)
   where
-    by : (a b c e : Bool) (m : Ask VolumeRecord)
-        → Mounts m
-        (pick a (pick b (pick c (pick e m (refuse Unsupported)) (refuse NotBluray)) (refuse NotBluray)) (refuse NotBluray))
-        (pick a (pick b (pick c (pick e 0 4) 3) 3) 3)
-    by false b c e m = stops NotBluray refl refl
-    by true false c e m = stops NotBluray refl refl
-    by true true false e m = stops NotBluray refl refl
-    by true true true false m = stops Unsupported refl refl
-    by true true true true m = goes refl refl
+    by : (a b c e : Bool) (x : Outcome Mount)
+        → pick a
+        (pick b
+        (pick c (pick e (then (ended x) (file_set_on how.checked k)) (refuse Unsupported)) (refuse NotBluray))
+        (refuse NotBluray))
+        (refuse NotBluray)
+        ≡ mounted_by how k (mount_behind (pick a (pick b (pick c (pick e (Ok tt) (Err Unsupported)) (Err NotBluray)) (Err NotBluray)) (Err NotBluray)) (returned x))
+    by false b c e x = refl
+    by true false c e x = refl
+    by true true false e x = refl
+    by true true true false x = refl
+    by true true true true (answered m) = refl
+    by true true true true (refused r) = refl
 
-goes_on : {m x : Ask VolumeRecord} {n : ℕ} → Mounts m x n → n ≡ 0 → x ≡ m
-goes_on (goes e z) h = e
-goes_on (stops r e z) h = absurd (refusal-numbered r (sym z ∙ h))
+-- the returns of `open_kept`
+module _ (image : List ℕ) (how : How) (k : Kept) (first l n : ℕ) {r : Result Mount Refusal} (e : r ≡ mount_behind (mountable k) (returned (mount_of how (scanned_in image how first l) k))) where
+  mount-told : {x : Result Mount Refusal} → r ≡ x → mounting_of how (scanned_in image how first l) k ≡ mounted_by how k x
+  mount-told h = mounts how (scanned_in image how first l) k ∙ ap (mounted_by how k) (sym e ∙ h)
 
-module _ (image : List ℕ) (how : How) (k : Kept) (first l n : ℕ) {a : ℕ} (e : a ≡ mountable k) where
-  pub mount-not : n < 2 ^ 32 → {o : Opened} → (a ≡ 0 → ⊥) → o ≡ record { answer = a; count = n; volume = no_volume }
+  pub mount-refused : {why : Refusal} {a : ℕ} {o : Opened} → r ≡ Err why → a ≡ number why → n < 2 ^ 32 → o ≡ record { answer = a; count = n; volume = no_volume }
       → o ≡ opened_of (after n (ran (disc image) (mounting_of how (scanned_in image how first l) k)))
-  mount-not few {o} h q = by (mounts how (scanned_in image how first l) k)
-    where
-      by : Mounts (mounted_on how (scanned_in image how first l) k) (mounting_of how (scanned_in image how first l) k) (mountable k)
-          → o ≡ opened_of (after n (ran (disc image) (mounting_of how (scanned_in image how first l) k)))
-      by (goes f z) = absurd (h (e ∙ z))
-      by (stops r f z) = refused-after (disc image) r n f (e ∙ z) few q
+  mount-refused {why} h m few q = refused-after (disc image) why n (mount-told h) m few q
 
-  module _ (y : a ≡ 0) {r : MountRead} (f : r ≡ mount_read (mount_of how (scanned_in image how first l) k)) {o : Opened} where
-    pub mount-refused : n < 2 ^ 32 → (r.answer ≡ 0 → ⊥) → o ≡ record { answer = r.answer; count = n; volume = no_volume }
-        → o ≡ opened_of (after n (ran (disc image) (mounting_of how (scanned_in image how first l) k)))
-    unfolding then
-    mount-refused few h q = rw (goes_on (mounts how (scanned_in image how first l) k) (sym e ∙ y)) (by (mount_of how (scanned_in image how first l) k) f)
-      where
-        by : (x : Outcome Mount) → r ≡ mount_read x → o ≡ opened_of (after n (ran (disc image) (then (ended x) (file_set_on how.checked k))))
-        by (answered m) g = absurd (h (ap (λ (z : MountRead). z.answer) g))
-        by (refused w) g = refused-after (disc image) w n refl (ap (λ (z : MountRead). z.answer) g) few q
-
-    pub mount-leads : r.answer ≡ 0 → o ≡ opened_of (after n (ran (disc image) (file_set_on how.checked k r.mount)))
-        → o ≡ opened_of (after n (ran (disc image) (mounting_of how (scanned_in image how first l) k)))
-    unfolding then
-    mount-leads h q = rw (goes_on (mounts how (scanned_in image how first l) k) (sym e ∙ y)) (by (mount_of how (scanned_in image how first l) k) f)
-      where
-        by : (x : Outcome Mount) → r ≡ mount_read x → o ≡ opened_of (after n (ran (disc image) (then (ended x) (file_set_on how.checked k))))
-        by (answered m) g = let z : r.mount ≡ m = ap (λ (v : MountRead). v.mount) g in rw z at q
-        by (refused w) g = absurd (refusal-numbered w (sym (ap (λ (z : MountRead). z.answer) g) ∙ h))
+  pub mount-leads : {m : Mount} {o : Opened} → r ≡ Ok m → o ≡ opened_of (after n (ran (disc image) (file_set_on how.checked k m)))
+      → o ≡ opened_of (after n (ran (disc image) (mounting_of how (scanned_in image how first l) k)))
+  mount-leads h q = q ∙ ap (λ (x : Ask VolumeRecord). opened_of (after n (ran (disc image) x))) (sym (mount-told h))
 
 -- ---- a scan asks for no more sectors than it was given
 
@@ -212,23 +154,18 @@ then-count d how m n h g = rw (ran_then d m (mounting how)) (by (ran d m).outcom
     by (refused r) c h = omega arith
 
 mount-count : (d : Disc) (how : How) (ps : List Parsed) (k : Kept) → (ran d (mounting_of how ps k)).count ≤ 1
-unfolding then
-mount-count d how ps k = by (mounts how ps k)
+mount-count d how ps k = rw (mounts how ps k) (by (mount_behind (mountable k) (returned (mount_of how ps k))))
   where
     set : (m : Mount) (s : ℕ) → (ran d (file_set_at how.checked k m s)).count ≤ 1
     set m s = ask-count d s (λ b. ended (volume_in m k (read_file_set how.checked b))) 0 (λ b (u : d s ≡ holds b). rw (ran-ended d (volume_in m k (read_file_set how.checked b))) (omega arith))
 
-    on : (m : Mount) (o : Option ℕ) → (ran d (standing o (file_set_at how.checked k m))).count ≤ 1
-    on m none = rw (ran-refuse {A = VolumeRecord} d Unsupported) (omega arith)
-    on m (some s) = set m s
+    on : (m : Mount) (x : Option ℕ) → (ran d (standing x (file_set_at how.checked k m))).count ≤ 1
+    on m None = rw (ran-refuse {A = VolumeRecord} d Unsupported) (omega arith)
+    on m (Some s) = set m s
 
-    mounted : (x : Outcome Mount) → (ran d (then (ended x) (file_set_on how.checked k))).count ≤ 1
-    mounted (answered m) = on m (file_set_in m k)
-    mounted (refused r) = rw (ran-refuse {A = VolumeRecord} d r) (omega arith)
-
-    by : {n : ℕ} → Mounts (mounted_on how ps k) (mounting_of how ps k) n → (ran d (mounting_of how ps k)).count ≤ 1
-    by (goes e z) = rw e (mounted (mount_of how ps k))
-    by (stops r e z) = rw (e, ran-refuse {A = VolumeRecord} d r) (omega arith)
+    by : (x : Result Mount Refusal) → (ran d (mounted_by how k x)).count ≤ 1
+    by (Ok m) = on m (file_set_in m k)
+    by (Err r) = rw (ran-refuse {A = VolumeRecord} d r) (omega arith)
 
 -- as the code reports it
 scanned-count : (how : How) (r : Ran (List Parsed)) → (scanned_of (order_of how) any_partition nothing r).count ≡ r.count
@@ -253,8 +190,8 @@ module _ (d : Disc) (how : How) (l at : ℕ) {s : Scanned} (h : l < 2 ^ 32) (e :
 
 -- ---- behind the anchor
 
-pub anchor-not : (image : List ℕ) (how : How) {x : AnchorRead} {why : Refusal} {n : ℕ} {o : Opened}
-    → x ≡ NoAnchor why
+pub anchor-not : (image : List ℕ) (how : How) {x : Result AnchorVolumeDescriptorPointer Refusal} {why : Refusal} {n : ℕ} {o : Opened}
+    → x ≡ Err why
     → n ≡ number why
     → o ≡ record { answer = n; count = 1; volume = no_volume }
     → o ≡ opened_of (after 1 (ran (disc image) (anchored how x)))
@@ -262,52 +199,55 @@ anchor-not image how {x} {why} e q k = refused-after (disc image) why 1 (rw e) q
 
 -- a scan, and what follows it, after one sector
 module _ (d : Disc) (how : How) {s : Scanned} {o : Opened} where
-  scan-refuses : (r : Ran (List Parsed)) → s ≡ scanned_of (order_of how) any_partition nothing r → (s.answer ≡ 0 → ⊥) → s.count + 1 < 2 ^ 32
-      → o ≡ record { answer = s.answer; count = s.count + 1; volume = no_volume }
+  scan-refuses : (r : Ran (List Parsed)) {why : Refusal} {a : ℕ} → s ≡ scanned_of (order_of how) any_partition nothing r → s.kept ≡ Err why → a ≡ number why → s.count + 1 < 2 ^ 32
+      → o ≡ record { answer = a; count = s.count + 1; volume = no_volume }
       → o ≡ opened_of (after 1 (onward r.outcome r.count (λ ps. ran d (mounting how ps))))
-  scan-refuses r = by r.outcome r.count
+  scan-refuses r {why} {a} = by r.outcome r.count
     where
-      by : (x : Outcome (List Parsed)) (n : ℕ) → s ≡ scanned_by (order_of how) any_partition nothing x n → (s.answer ≡ 0 → ⊥) → s.count + 1 < 2 ^ 32
-          → o ≡ record { answer = s.answer; count = s.count + 1; volume = no_volume }
+      by : (x : Outcome (List Parsed)) (n : ℕ) → s ≡ scanned_by (order_of how) any_partition nothing x n → s.kept ≡ Err why → a ≡ number why → s.count + 1 < 2 ^ 32
+          → o ≡ record { answer = a; count = s.count + 1; volume = no_volume }
           → o ≡ opened_of (after 1 (onward x n (λ ps. ran d (mounting how ps))))
-      by (answered k) n e h m q = absurd (h (ap (λ (z : Scanned). z.answer) e))
-      by (refused w) n e h m q =
-          let a : s.answer ≡ number w = ap (λ (z : Scanned). z.answer) e in
+      by (answered k) n e h w m q = absurd (let z : Ok (kept_of (order_of how) any_partition nothing k) ≡ Err why = sym (ap (λ (z : Scanned). z.kept) e) ∙ h in cc)
+      by (refused r) n e h w m q =
+          let g : Err r ≡ Err why = sym (ap (λ (z : Scanned). z.kept) e) ∙ h in
+          let y : r ≡ why = cc in
           let b : s.count ≡ n = ap (λ (z : Scanned). z.count) e in
           let c : reported (1 + n) ≡ s.count + 1 = omega arith in
-          rw (c, ← a) q
+          rw (c, y, ← w) q
 
-  scan-mounts : (r : Ran (List Parsed)) → s ≡ scanned_of (order_of how) any_partition nothing r → s.answer ≡ 0
-      → o ≡ opened_of (after (s.count + 1) (ran d (mounting_of how (parsed_in r.outcome) s.kept)))
+  scan-mounts : (r : Ran (List Parsed)) {k : Kept} → s ≡ scanned_of (order_of how) any_partition nothing r → s.kept ≡ Ok k
+      → o ≡ opened_of (after (s.count + 1) (ran d (mounting_of how (parsed_in r.outcome) k)))
       → o ≡ opened_of (after 1 (onward r.outcome r.count (λ ps. ran d (mounting how ps))))
-  scan-mounts r = by r.outcome r.count
+  scan-mounts r {k} = by r.outcome r.count
     where
-      by : (x : Outcome (List Parsed)) (n : ℕ) → s ≡ scanned_by (order_of how) any_partition nothing x n → s.answer ≡ 0
-          → o ≡ opened_of (after (s.count + 1) (ran d (mounting_of how (parsed_in x) s.kept)))
+      by : (x : Outcome (List Parsed)) (n : ℕ) → s ≡ scanned_by (order_of how) any_partition nothing x n → s.kept ≡ Ok k
+          → o ≡ opened_of (after (s.count + 1) (ran d (mounting_of how (parsed_in x) k)))
           → o ≡ opened_of (after 1 (onward x n (λ ps. ran d (mounting how ps))))
       by (answered ps) n e h q =
-          let a : s.kept ≡ kept_of (order_of how) any_partition nothing ps = ap (λ (z : Scanned). z.kept) e in
+          let g : Ok k ≡ Ok (kept_of (order_of how) any_partition nothing ps) = sym h ∙ ap (λ (z : Scanned). z.kept) e in
+          let a : k ≡ kept_of (order_of how) any_partition nothing ps = cc in
           let b : s.count ≡ n = ap (λ (z : Scanned). z.count) e in
           let c : 1 + (n + (ran d (mounting how ps)).count) ≡ s.count + 1 + (ran d (mounting how ps)).count = omega arith in
           rw c (rw a at q)
-      by (refused w) n e h q = absurd (refusal-numbered w (sym (ap (λ (z : Scanned). z.answer) e) ∙ h))
+      by (refused w) n e h q = absurd (let z : Ok k ≡ Err w = sym h ∙ ap (λ (z : Scanned). z.kept) e in cc)
 
 -- the main sequence
 abbrev main_scan : Bool → AnchorVolumeDescriptorPointer → Ask (List Parsed)
 main_scan check a = scan check (a.main_volume_descriptor_sequence.length / 2048) a.main_volume_descriptor_sequence.location
 
-module _ (image : List ℕ) (how : How) {x : AnchorRead} {a : AnchorVolumeDescriptorPointer} (e : x ≡ AnAnchor a)
+module _ (image : List ℕ) (how : How) {x : Result AnchorVolumeDescriptorPointer Refusal} {a : AnchorVolumeDescriptorPointer} (e : x ≡ Ok a)
     {s : Scanned} (f : s ≡ scanned_of (order_of how) any_partition nothing (ran (disc image) (main_scan how.checked a))) {o : Opened} where
-  pub anchor-stops : a.main_volume_descriptor_sequence.length < 2 ^ 32
-      → (s.answer ≡ 0 → ⊥)
-      → o ≡ record { answer = s.answer; count = s.count + 1; volume = no_volume }
+  pub anchor-stops : {why : Refusal} {c : ℕ} → a.main_volume_descriptor_sequence.length < 2 ^ 32
+      → s.kept ≡ Err why
+      → c ≡ number why
+      → o ≡ record { answer = c; count = s.count + 1; volume = no_volume }
       → o ≡ opened_of (after 1 (ran (disc image) (anchored how x)))
-  anchor-stops few h q =
+  anchor-stops few h w q =
       let m = scan-few (disc image) how a.main_volume_descriptor_sequence.length a.main_volume_descriptor_sequence.location few f in
-      rw (e, ran_then (disc image) (main_scan how.checked a) (mounting how)) (scan-refuses (disc image) how (ran (disc image) (main_scan how.checked a)) f h m q)
+      rw (e, ran_then (disc image) (main_scan how.checked a) (mounting how)) (scan-refuses (disc image) how (ran (disc image) (main_scan how.checked a)) f h w m q)
 
-  pub anchor-leads : s.answer ≡ 0
-      → o ≡ opened_of (after (s.count + 1) (ran (disc image) (mounting_of how (scanned_in image how a.main_volume_descriptor_sequence.location (a.main_volume_descriptor_sequence.length / 2048)) s.kept)))
+  pub anchor-leads : {k : Kept} → s.kept ≡ Ok k
+      → o ≡ opened_of (after (s.count + 1) (ran (disc image) (mounting_of how (scanned_in image how a.main_volume_descriptor_sequence.location (a.main_volume_descriptor_sequence.length / 2048)) k)))
       → o ≡ opened_of (after 1 (ran (disc image) (anchored how x)))
   unfolding scanned_in
   anchor-leads h q = rw (e, ran_then (disc image) (main_scan how.checked a) (mounting how)) (scan-mounts (disc image) how (ran (disc image) (main_scan how.checked a)) f h q)
@@ -322,7 +262,7 @@ module _ (image : List ℕ) (how : How) {m : ℕ} (g : m ≡ held_from image 256
       gone : (l : ℕ) → m ≡ l / 2048 - 256 → l < 2048 * 256 + 2048
       gone l u = omega arith
 
-  pub opening-there : {b : List ℕ} {x : AnchorRead} {o : Opened}
+  pub opening-there : {b : List ℕ} {x : Result AnchorVolumeDescriptorPointer Refusal} {o : Opened}
       → (m ≡ 0 → ⊥)
       → b ≡ bytes_in (disc image 256)
       → x ≡ read_anchor how.checked b
@@ -339,7 +279,7 @@ module _ (image : List ℕ) (how : How) {m : ℕ} (g : m ≡ held_from image 256
 
 -- ---- how many sectors
 
-pub anchored-count : (d : Disc) (how : How) (x : AnchorRead) → (ran d (anchored how x)).count ≤ 1 + main_length_in x / 2048
-anchored-count d how (AnAnchor a) =
+pub anchored-count : (d : Disc) (how : How) (x : Result AnchorVolumeDescriptorPointer Refusal) → (ran d (anchored how x)).count ≤ 1 + main_length_in x / 2048
+anchored-count d how (Ok a) =
     then-count d how (main_scan how.checked a) (a.main_volume_descriptor_sequence.length / 2048) (scan-count how.checked d _ _) (λ ps. mount-count d how ps (kept_of (order_of how) any_partition nothing ps))
-anchored-count d how (NoAnchor r) = rw (ran-refuse {A = VolumeRecord} d r) (omega arith)
+anchored-count d how (Err r) = rw (ran-refuse {A = VolumeRecord} d r) (omega arith)

@@ -1,8 +1,8 @@
 -- What is promised of the calls on an image, beside their contracts: a contract leaves one result, how many sectors are asked for, and
 -- that nothing but those decides. Assumes nothing.
+use Rattle.std.specs.Prelude.{Option, Some, None, Result, Ok, Err}
 use mathlib.Core.Path.{◌≡◌, refl, ap, sym, ◌∙◌, fun_ext}
 use mathlib.Core.Bool.{Bool, true, false}
-use mathlib.Core.Option.{Option, none, some}
 use mathlib.Core.List.{List, [], ◌∷◌, ◌++◌, append-nil}
 use Prim.Native.Nat.{ℕ, ◌+◌, ◌/◌, ◌<◌, ◌≤◌}
 use native.Mathlib.Omega.{arith}
@@ -30,8 +30,6 @@ use Rattle.disc.proofs.ReplyLaws.{replied-one, same-replied}
 use Rattle.descriptors.specs.Volumes.{read_anchor}
 use Rattle.descriptors.specs.FileSets.{read_file_set}
 use Rattle.descriptors.specs.declared.file_sets.FileSetDescriptor.{FileSetDescriptor}
-use Rattle.descriptors.specs.declared.anchors.AnchorRead.{AnchorRead}
-use Rattle.descriptors.specs.declared.anchors.AnchorRead.TheVariants.{Read as AnAnchor, Refused as NoAnchor}
 use Rattle.volumes.specs.Sequences.{nothing, Parsed, Order, latest, highest, order_of, any_partition, kept_of}
 use Rattle.volumes.specs.Sequences.Parsed.{primary, partition, logical}
 use Rattle.volumes.specs.Openings.{no_volume, plain_mount, start_in, start_of_number, file_set_ref, mapped_mount, mount_of, file_set_in, volume_in, file_set_at, file_set_on, mounting_of, anchored, opening, opened_by, opened_of}
@@ -48,6 +46,7 @@ use Rattle.disc.specs.Lists.{asked_behind}
 use Rattle.volumes.specs.Made.{Mapped, main_length, sequence_in, sequence, chosen, Sequenced, Mounted, Made, own_mounting, Started}
 use Rattle.volumes.specs.Prevailing.{Kind, kind_of, number_of, has_of, Keeps, Every, Prevails, Rising, wanted_in}
 use Rattle.volumes.specs.Prevailing.Kind.{primaries, partitions, logicals}
+use Rattle.descriptors.specs.declared.anchors.AnchorVolumeDescriptorPointer.{AnchorVolumeDescriptorPointer}
 
 -- ---- a contract leaves one result
 
@@ -132,9 +131,9 @@ pub opening-is : (how : How) → opening how ≡ then (sequence how.checked) (ch
 unfolding opening sequence then
 opening-is how = λ i. ask 256 (λ b. by (read_anchor how.checked b) i)
   where
-    by : (x : AnchorRead) → anchored how x ≡ then (sequence_in how.checked x) (chosen how)
-    by (NoAnchor r) = refl
-    by (AnAnchor a) = refl
+    by : (x : Result AnchorVolumeDescriptorPointer Refusal) → anchored how x ≡ then (sequence_in how.checked x) (chosen how)
+    by (Err r) = refl
+    by (Ok a) = refl
 
 opening-runs : (d : Disc) (how : How) → ran d (opening how) ≡ followed (ran d (sequence how.checked)) (λ ps. ran d (chosen how ps))
 opening-runs d how = ap (ran d) (opening-is how) ∙ ran_then d (sequence how.checked) (chosen how)
@@ -219,8 +218,8 @@ module _ (how : How) (ps : List Parsed) (d : Disc) (k : Kept) {v : VolumeRecord}
 
   made_at : (m : Mount) → mount_of how ps k ≡ answered m → (o : Option ℕ) → outcome d (standing o (file_set_at how.checked k m)) ≡ answered v → Mounted how ps k v
   unfolding outcome
-  made_at m q none e = never e
-  made_at m q (some s) e = made_in m q (d s) e
+  made_at m q None e = never e
+  made_at m q (Some s) e = made_in m q (d s) e
 
   made_by : (x : Outcome Mount) → mount_of how ps k ≡ x → outcome d (then (ended x) (file_set_on how.checked k)) ≡ answered v → Mounted how ps k v
   unfolding outcome then
@@ -266,7 +265,7 @@ module _ (how : How) (h : how.maps ≡ false) where
   unfolding placed start_for
   own-file-set k = by (eqb (file_set_ref k) k.partition_number)
     where
-      by : (t : Bool) → standing (crossing k.file_set.location.block (pick t (some k.partition_start) none)) (file_set_at how.checked k (plain_mount how.checked k))
+      by : (t : Bool) → standing (crossing k.file_set.location.block (pick t (Some k.partition_start) None)) (file_set_at how.checked k (plain_mount how.checked k))
           ≡ pick t (ask (k.partition_start + k.file_set.location.block) (λ b. ended (volume_in (plain_mount how.checked k) k (read_file_set how.checked b)))) (refuse Unsupported)
       by true = refl
       by false = refl
@@ -313,20 +312,20 @@ module _ (Before Behind : ℕ → ℕ → Type 0) (ps : List Parsed) (number : �
 
   -- what was kept of a number, by an order
   started_of : (o : Order) → ((e : (kept_of o (eqb number) nothing ps).has_partition ≡ true) → Prevails Before Behind partitions (wanted_in (eqb number) ps) (kept_of o (eqb number) nothing ps))
-      → start_in (kept_of o (eqb number) nothing ps) ≡ some start → Started Before Behind ps number start
+      → start_in (kept_of o (eqb number) nothing ps) ≡ Some start → Started Before Behind ps number start
   started_of o f e =
       let k = kept_of o (eqb number) nothing ps in
-      let p = picked (λ (x : Option ℕ). x ≡ some start) k.has_partition (some k.partition_start) none e (λ z. let w : ◌≡◌ {A = ℕ} 0 1 = cc in omega arith) in
+      let p = picked (λ (x : Option ℕ). x ≡ Some start) k.has_partition (Some k.partition_start) None e (λ z. let w : ◌≡◌ {A = ℕ} 0 1 = cc in omega arith) in
       let s : k.partition_start ≡ start = let q = p.1 in cc in
       started-by k (f p.0) (kept-number o (eqb number) ps p.0) s
 
 -- by the highest number among them, and of equal ones the later; by the default the last one
-module _ (how : How) (ps : List Parsed) (number : ℕ) {start : ℕ} (e : start_of_number how ps number ≡ some start) where
+module _ (how : How) (ps : List Parsed) (number : ℕ) {start : ℕ} (e : start_of_number how ps number ≡ Some start) where
   pub highest-started : how.highest ≡ true → Started (λ n m. n ≤ m) (λ n m. n < m) ps number start
   unfolding start_of_number
   highest-started h = by how.highest h e
     where
-      by : (t : Bool) → t ≡ true → start_in (kept_of (λ a b. pick t (highest a b) (latest a b)) (eqb number) nothing ps) ≡ some start → Started (λ n m. n ≤ m) (λ n m. n < m) ps number start
+      by : (t : Bool) → t ≡ true → start_in (kept_of (λ a b. pick t (highest a b) (latest a b)) (eqb number) nothing ps) ≡ Some start → Started (λ n m. n ≤ m) (λ n m. n < m) ps number start
       by true q f = started_of (λ n m. n ≤ m) (λ n m. n < m) ps number highest (highest-wanted (eqb number) partitions ps) f
       by false q f = not-both q
 
@@ -334,6 +333,6 @@ module _ (how : How) (ps : List Parsed) (number : ℕ) {start : ℕ} (e : start_
   unfolding start_of_number
   latest-started h = by how.highest h e
     where
-      by : (t : Bool) → t ≡ false → start_in (kept_of (λ a b. pick t (highest a b) (latest a b)) (eqb number) nothing ps) ≡ some start → Started (λ n m. Unit {0}) (λ n m. ⊥) ps number start
+      by : (t : Bool) → t ≡ false → start_in (kept_of (λ a b. pick t (highest a b) (latest a b)) (eqb number) nothing ps) ≡ Some start → Started (λ n m. Unit {0}) (λ n m. ⊥) ps number start
       by true q f = not-both (sym q)
       by false q f = started_of (λ n m. Unit {0}) (λ n m. ⊥) ps number latest (latest-wanted (eqb number) partitions ps) f

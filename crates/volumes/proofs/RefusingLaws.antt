@@ -1,4 +1,5 @@
 -- Which refusals opening and the label say by themselves: 2, 3 and 4, and 10 where bodies are checked. Assumes nothing.
+use Rattle.std.specs.Prelude.{Result, Ok, Err}
 use mathlib.Core.Path.{◌≡◌, refl, sym, subst}
 use mathlib.Core.Bool.{Bool, true, false}
 use mathlib.Core.List.{List}
@@ -16,13 +17,9 @@ use Rattle.records.specs.Bytes.{u16at}
 use Rattle.names.proofs.Promises.{field-refused}
 use Rattle.descriptors.specs.Volumes.{read_anchor, read_partition, read_primary, read_logical}
 use Rattle.descriptors.specs.FileSets.{read_file_set}
-use Rattle.descriptors.specs.declared.anchors.AnchorRead.{AnchorRead}
-use Rattle.descriptors.specs.declared.anchors.AnchorRead.TheVariants.{Read as AnAnchor, Refused as NoAnchor}
 use Rattle.descriptors.specs.declared.primaries.PrimaryVolumeDescriptor.{PrimaryVolumeDescriptor}
 use Rattle.descriptors.specs.declared.logicals.LogicalVolumeDescriptor.{LogicalVolumeDescriptor}
 use Rattle.descriptors.specs.declared.file_sets.FileSetDescriptor.{FileSetDescriptor}
-use Rattle.descriptors.specs.declared.partitions.PartitionRead.{PartitionRead}
-use Rattle.descriptors.specs.declared.partitions.PartitionRead.TheVariants.{Read as APartition, Refused as NoPartition}
 use Rattle.descriptors.proofs.AnswerLaws.{anchor-refused, primary-refused, partition-refused, logical-refused, file-set-refused}
 use Rattle.volumes.specs.declared.openings.How.{How}
 use Rattle.volumes.specs.declared.openings.VolumeRecord.{VolumeRecord}
@@ -33,6 +30,8 @@ use Rattle.volumes.specs.Openings.{mount_of, file_set_in, volume_in, mounting_of
 use Rattle.volumes.proofs.MapLaws.{mount-refuses}
 use Rattle.volumes.specs.Labels.{label_of, labelling}
 use Rattle.disc.specs.Refusing.{Refuses, Any}
+use Rattle.descriptors.specs.declared.partitions.PartitionDescriptor.{PartitionDescriptor}
+use Rattle.descriptors.specs.declared.anchors.AnchorVolumeDescriptorPointer.{AnchorVolumeDescriptorPointer}
 
 -- ---- opening, for any P that has 2, 3 and 4, and 10 where bodies are checked
 
@@ -58,9 +57,9 @@ module _ (P : Refusal → Type 0) (malformed : P Malformed) (missing : P NotBlur
       whole (answered d) h e = absurd (let z : ◌≡◌ {A = ℕ} 0 1 = cc in omega arith)
       whole (refused q) h e = fails_by e (logical-refused check b P malformed crc h)
 
-      parted : (x : PartitionRead) → x ≡ read_partition check b → partition_in x ≡ fails r → P r
-      parted (APartition d) h e = absurd (let z : ◌≡◌ {A = ℕ} 0 1 = cc in omega arith)
-      parted (NoPartition q) h e = fails_by e (partition-refused check b P malformed crc h refl)
+      parted : (x : Result PartitionDescriptor Refusal) → x ≡ read_partition check b → partition_in x ≡ fails r → P r
+      parted (Ok d) h e = absurd (let z : ◌≡◌ {A = ℕ} 0 1 = cc in omega arith)
+      parted (Err q) h e = fails_by e (partition-refused check b P malformed crc h refl)
 
       by : (t u v w : Bool) → pick t (primary_in (read_primary check b)) (pick u (partition_in (read_partition check b)) (pick v (logical_in (read_logical check b)) (pick w over passed))) ≡ fails r → P r
       by true u v w e = first (read_primary check b) refl e
@@ -102,9 +101,9 @@ module _ (P : Refusal → Type 0) (malformed : P Malformed) (missing : P NotBlur
   unfolding opening
   opening-only how crc = ask-only (λ b. by b (read_anchor how.checked b) refl)
     where
-      by : (b : List ℕ) (x : AnchorRead) → x ≡ read_anchor how.checked b → Refuses P Any (anchored how x)
-      by b (NoAnchor r) e = refuse-only (anchor-refused how.checked b P malformed crc e refl)
-      by b (AnAnchor a) e = then-only (scan-only how.checked crc _ _) (λ ps q. mounting-only how crc ps (kept_of (order_of how) any_partition nothing ps))
+      by : (b : List ℕ) (x : Result AnchorVolumeDescriptorPointer Refusal) → x ≡ read_anchor how.checked b → Refuses P Any (anchored how x)
+      by b (Err r) e = refuse-only (anchor-refused how.checked b P malformed crc e refl)
+      by b (Ok a) e = then-only (scan-only how.checked crc _ _) (λ ps q. mounting-only how crc ps (kept_of (order_of how) any_partition nothing ps))
 
   pub label-only : (how : How) → (how.checked ≡ true → P BadCrc) → Refuses P Any (labelling how)
   unfolding labelling

@@ -1,6 +1,5 @@
 -- The choices on opening as one number, a bit to a choice: RULES 5.23.
-use Rattle.std.specs.Prelude.{ℕ, ◌/◌, ◌%◌, eqb}
-use Rattle.std.proofs.Math.Option.{Option, none, some}
+use Rattle.std.specs.Prelude.{ℕ, ◌/◌, ◌%◌, eqb, Option, Some, None}
 use Rattle.disc.specs.Choice.{pick}
 use Rattle.disc.specs.Ask.{Ask}
 use Rattle.disc.specs.Ask.Ask.{refuse}
@@ -8,20 +7,12 @@ use Rattle.disc.specs.declared.refusals.Refusal.TheVariants.{Unsupported}
 use Rattle.volumes.specs.Openings.{opening}
 use Rattle.volumes.specs.declared.openings.How.{How}
 use Rattle.volumes.specs.declared.openings.VolumeRecord.{VolumeRecord}
-use Rattle.volumes.specs.declared.choices.Choice.{Choice}
-use Rattle.volumes.specs.declared.choices.Choice.TheVariants.{Known, Unknown}
 
 -- 1 chooses that bodies are checked, 2 that references go through the maps, 4 the highest number; the bits from 8 on are of no choice
 abbrev pub how_of : ℕ → Option How
-how_of n = pick (eqb (n / 8) 0) (some (record { highest = eqb (n / 4) 1; checked = eqb (n % 2) 1; maps = eqb (n / 2 % 2) 1 })) none
+how_of n = pick (eqb (n / 8) 0) (Some (record { highest = eqb (n / 4) 1; checked = eqb (n % 2) 1; maps = eqb (n / 2 % 2) 1 })) None
 
 -- opening by choices, or by a number of none, which is refused before any sector
-abbrev pub opening_by : Choice → Ask VolumeRecord
-opening_by (Known how) = opening how
-opening_by Unknown = refuse Unsupported
-
--- ---- as the code reports it
-
-abbrev pub choice_of : Option How → Choice
-choice_of (some how) = Known how
-choice_of none = Unknown
+abbrev pub opening_by : Option How → Ask VolumeRecord
+opening_by (Some how) = opening how
+opening_by None = refuse Unsupported

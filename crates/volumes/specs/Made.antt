@@ -1,6 +1,5 @@
 -- Where the record of a volume comes from: the sequence, the descriptors that prevail, the mount.
-use Rattle.std.specs.Prelude.{true, Bool, List, ◌++◌, ◌∷◌, ◌≡◌, ◌*◌, ◌+◌, ◌<◌, ◌≤◌, ℕ, ◌/◌, eqb, get_or, length}
-use Rattle.std.proofs.Math.Option.{some}
+use Rattle.std.specs.Prelude.{true, Bool, List, ◌++◌, ◌∷◌, ◌≡◌, ◌*◌, ◌+◌, ◌<◌, ◌≤◌, ℕ, ◌/◌, eqb, get_or, length, Some, Result, Ok, Err}
 use Rattle.disc.specs.Ask.{Held, Ask, outcome, Disc, asked, ended}
 use Rattle.disc.specs.Ask.Ask.{refuse, ask}
 use Rattle.disc.specs.Ask.Held.{lacks, holds}
@@ -13,8 +12,6 @@ use Rattle.disc.specs.declared.refusals.Refusal.{Refusal}
 use Rattle.disc.specs.declared.refusals.Refusal.TheVariants.{Unsupported, NotBluray}
 use Rattle.descriptors.specs.FileSets.{read_file_set}
 use Rattle.descriptors.specs.Volumes.{read_anchor}
-use Rattle.descriptors.specs.declared.anchors.AnchorRead.{AnchorRead}
-use Rattle.descriptors.specs.declared.anchors.AnchorRead.TheVariants.{Refused as NoAnchor, Read as AnAnchor}
 use Rattle.volumes.specs.Openings.{file_set_ref, start_of_number, number_of_map, volume_of_map, map_in, is_plain_map, mounting, opening, mount_of, plain_mount, volume_in}
 use Rattle.volumes.specs.Prevailing.{Kind, has_of, wanted_in, Every}
 use Rattle.volumes.specs.Sequences.{Parsed, scan, kept_of, any_partition, nothing, order_of}
@@ -24,6 +21,7 @@ use Rattle.volumes.specs.declared.sequences.Kept.{Kept}
 use Rattle.descriptors.specs.declared.partitions.PartitionDescriptor.{PartitionDescriptor}
 use Rattle.volumes.specs.Prevailing.Kind.{partitions}
 use Rattle.volumes.specs.Sequences.Parsed.{partition}
+use Rattle.descriptors.specs.declared.anchors.AnchorVolumeDescriptorPointer.{AnchorVolumeDescriptorPointer}
 
 -- it has between one and four maps, all of type 1 and in a table that holds them, which is in the sector; of each its volume sequence number, its number
 -- and the start of that number's partition; and its own partition is that of the file set's map
@@ -36,16 +34,16 @@ pub record Mapped (how : How) (ps : List Parsed) (k : Kept) (m : Mount) : Type 0
   pub plain : (i : ℕ) → i < m.maps → is_plain_map (map_in k i) ≡ true
   pub volume : (i : ℕ) → i < m.maps → get_or m.volumes i 0 ≡ volume_of_map (map_in k i)
   pub numbered : (i : ℕ) → i < m.maps → get_or m.numbers i 0 ≡ number_of_map (map_in k i)
-  pub started : (i : ℕ) → i < m.maps → start_of_number how ps (get_or m.numbers i 0) ≡ some (get_or m.starts i 0)
+  pub started : (i : ℕ) → i < m.maps → start_of_number how ps (get_or m.numbers i 0) ≡ Some (get_or m.starts i 0)
   pub reference : file_set_ref k < m.maps
   pub start_is : m.start ≡ get_or m.starts (file_set_ref k) 0
   pub partition-is : m.partition ≡ get_or m.numbers (file_set_ref k) 0
   pub checked-is : m.checked ≡ pick how.checked 1 0
 
 -- the length of the main sequence, as the sector of the anchor tells it: 0 where there is no anchor
-abbrev pub main_length_in : AnchorRead → ℕ
-main_length_in (AnAnchor a) = a.main_volume_descriptor_sequence.length
-main_length_in (NoAnchor r) = 0
+abbrev pub main_length_in : Result AnchorVolumeDescriptorPointer Refusal → ℕ
+main_length_in (Ok a) = a.main_volume_descriptor_sequence.length
+main_length_in (Err r) = 0
 
 -- the length of the main sequence, as the sector of the anchor tells it, with bodies checked or not: 0 where there is none
 abbrev pub main_length : Bool → Held → ℕ
@@ -54,9 +52,9 @@ main_length check lacks = 0
 
 -- the anchor and the main sequence: no choice but that of checking goes into what is asked there, into what is refused there, or into the list of
 -- descriptors
-abbrev pub sequence_in : Bool → AnchorRead → Ask (List Parsed)
-sequence_in check (NoAnchor r) = refuse r
-sequence_in check (AnAnchor a) = scan check (a.main_volume_descriptor_sequence.length / 2048) a.main_volume_descriptor_sequence.location
+abbrev pub sequence_in : Bool → Result AnchorVolumeDescriptorPointer Refusal → Ask (List Parsed)
+sequence_in check (Err r) = refuse r
+sequence_in check (Ok a) = scan check (a.main_volume_descriptor_sequence.length / 2048) a.main_volume_descriptor_sequence.location
 
 unfoldable pub sequence : Bool → Ask (List Parsed)
 sequence check = ask 256 (λ b. sequence_in check (read_anchor check b))

@@ -1,7 +1,6 @@
 -- What the opening through the partition maps refuses, as a row of checks: RULES 5.11 and 5.28, in their order; written from the rules, with no word of how
 -- `Openings` goes through them.
-use Rattle.std.specs.Prelude.{ℕ, zero, suc, ◌+◌, ◌*◌, Bool, true, false, not, List, [], ◌∷◌, ◌++◌, eqb, leb, ltb}
-use Rattle.std.proofs.Math.Option.{Option, none, some}
+use Rattle.std.specs.Prelude.{ℕ, zero, suc, ◌+◌, ◌*◌, Bool, true, false, not, List, [], ◌∷◌, ◌++◌, eqb, leb, ltb, Option, Some, None}
 use Rattle.disc.specs.Choice.{pick}
 use Rattle.disc.specs.Ask.{Outcome}
 use Rattle.disc.specs.Ask.Outcome.{answered, refused}
@@ -37,8 +36,8 @@ check fails why = record { fails = fails; why = why }
 
 -- the refusal of the first that fails, none where all hold
 unfoldable pub first_of : List Check → Option Refusal
-first_of [] = none
-first_of (c ∷ cs) = pick c.fails (some c.why) (first_of cs)
+first_of [] = None
+first_of (c ∷ cs) = pick c.fails (Some c.why) (first_of cs)
 
 -- of what was kept (5.11): no PVD, no PD, no LVD, another block size
 abbrev pub kept_checks : Kept → List Check
@@ -69,8 +68,8 @@ mapped_checks how ps = kept_checks (kept_of (order_of how) any_partition nothing
 
 -- the sector that is asked for where none fails: the file set's block, from the start of the partition that its reference's map names
 abbrev pub start_or : Option ℕ → ℕ
-start_or none = 0
-start_or (some s) = s
+start_or None = 0
+start_or (Some s) = s
 
 abbrev pub file_set_sector : How → List Parsed → ℕ
 file_set_sector how ps =
@@ -80,10 +79,10 @@ file_set_sector how ps =
 -- ---- what an outcome refuses
 
 abbrev pub refusal_of : {A : Type 0} → Outcome A → Option Refusal
-refusal_of (answered a) = none
-refusal_of (refused r) = some r
+refusal_of (answered a) = None
+refusal_of (refused r) = Some r
 
 -- whether there is one
 abbrev pub is_there : {A : Type 0} → Option A → Bool
-is_there none = false
-is_there (some a) = true
+is_there None = false
+is_there (Some a) = true

@@ -1,6 +1,5 @@
 -- Opening a volume: RULES 5.1, 5.11, 5.14 and 5.20; and through its partition maps (ECMA-167 3/10.7).
-use Rattle.std.specs.Prelude.{ℕ, zero, suc, ◌+◌, ◌*◌, ◌/◌, Bool, false, ◌&&◌, List, [], ◌∷◌, get_or, take, drop, replicate, eqb, ltb}
-use Rattle.std.proofs.Math.Option.{Option, none, some}
+use Rattle.std.specs.Prelude.{ℕ, zero, suc, ◌+◌, ◌*◌, ◌/◌, Bool, false, ◌&&◌, List, [], ◌∷◌, get_or, take, drop, replicate, eqb, ltb, Option, Some, None, Result, Ok, Err}
 use Rattle.disc.specs.Choice.{pick}
 use Rattle.disc.specs.Refusals.{number}
 use Rattle.disc.specs.Counts.{reported}
@@ -10,20 +9,19 @@ use Rattle.disc.specs.Ask.Outcome.{answered, refused}
 use Rattle.disc.specs.Ran.{Ran}
 use Rattle.disc.specs.Places.{placed, standing}
 use Rattle.disc.specs.declared.places.Mount.{Mount}
-use Rattle.disc.specs.declared.places.PartitionRef.TheVariants.{Named}
 use Rattle.disc.specs.declared.refusals.Refusal.TheVariants.{Malformed, NotBluray, Unsupported}
 use Rattle.records.specs.Bytes.{byte, u16at}
 use Rattle.records.specs.Allocations.{no_long}
 use Rattle.descriptors.specs.Volumes.{read_anchor}
 use Rattle.descriptors.specs.FileSets.{read_file_set}
-use Rattle.descriptors.specs.declared.anchors.AnchorRead.{AnchorRead}
-use Rattle.descriptors.specs.declared.anchors.AnchorRead.TheVariants.{Read as AnAnchor, Refused as NoAnchor}
 use Rattle.descriptors.specs.declared.file_sets.FileSetDescriptor.{FileSetDescriptor}
 use Rattle.volumes.specs.declared.sequences.Kept.{Kept}
 use Rattle.volumes.specs.declared.openings.VolumeRecord.{VolumeRecord}
 use Rattle.volumes.specs.declared.openings.Opened.{Opened}
 use Rattle.volumes.specs.declared.openings.How.{How}
 use Rattle.volumes.specs.Sequences.{nothing, Parsed, order_of, any_partition, kept_of, scan}
+use Rattle.descriptors.specs.declared.anchors.AnchorVolumeDescriptorPointer.{AnchorVolumeDescriptorPointer}
+use Rattle.disc.specs.declared.refusals.Refusal.{Refusal}
 
 -- where nothing is chosen
 abbrev pub usual : How
@@ -65,23 +63,23 @@ number_of_map b = u16at b 4
 
 -- where the partition of a number starts: the one of its descriptors that prevails says so; none where there is no descriptor
 abbrev pub start_in : Kept → Option ℕ
-start_in k = pick k.has_partition (some k.partition_start) none
+start_in k = pick k.has_partition (Some k.partition_start) None
 
 unfoldable pub start_of_number : How → List Parsed → ℕ → Option ℕ
 start_of_number how ps number = start_in (kept_of (order_of how) (eqb number) nothing ps)
 
 -- where the partition of a map starts: none where the map isn't of type 1, or no descriptor has its number
 abbrev pub start_of_map : How → List Parsed → List ℕ → Option ℕ
-start_of_map how ps b = pick (is_plain_map b) (start_of_number how ps (number_of_map b)) none
+start_of_map how ps b = pick (is_plain_map b) (start_of_number how ps (number_of_map b)) None
 
 -- the starts of n maps from the i-th on: none where one has none
 abbrev pub start_then : Option ℕ → Option (List ℕ) → Option (List ℕ)
-start_then none rest = none
-start_then (some s) none = none
-start_then (some s) (some rest) = some (s ∷ rest)
+start_then None rest = None
+start_then (Some s) None = None
+start_then (Some s) (Some rest) = Some (s ∷ rest)
 
 unfoldable pub starts_from : How → List Parsed → List ℕ → ℕ → ℕ → Option (List ℕ)
-starts_from how ps maps i zero = some []
+starts_from how ps maps i zero = Some []
 starts_from how ps maps i (suc n) = start_then (start_of_map how ps (map_at maps i)) (starts_from how ps maps (i + 1) n)
 
 -- of the first n maps
@@ -116,8 +114,8 @@ mount_from_starts check k starts = record {
 
 -- a map without a start; a file set reference beyond the maps
 abbrev pub mounted_by : Bool → Kept → Option (List ℕ) → Outcome Mount
-mounted_by check k none = refused Unsupported
-mounted_by check k (some l) =
+mounted_by check k None = refused Unsupported
+mounted_by check k (Some l) =
     pick (ltb (file_set_ref k) k.map_count)
     (answered (mount_from_starts check k (each_of k.map_count (λ i. get_or l i 0))))
     (refused Unsupported)
@@ -138,7 +136,7 @@ mount_of how ps k = pick how.maps (mapped_mount how ps k) (answered (plain_mount
 
 -- the file set descriptor's place
 abbrev pub file_set_in : Mount → Kept → Option ℕ
-file_set_in m k = placed m (Named (file_set_ref k)) k.file_set.location.block
+file_set_in m k = placed m (Some (file_set_ref k)) k.file_set.location.block
 
 -- the volume, once its file set descriptor is read
 abbrev pub volume_in : Mount → Kept → Outcome FileSetDescriptor → Outcome VolumeRecord
@@ -173,9 +171,9 @@ mounting how ps = mounting_of how ps (kept_of (order_of how) any_partition nothi
 -- ---- the whole call
 
 -- behind the anchor: the main sequence, as many whole sectors as its length has (3/8.4.2.1), and then the volume that its descriptors give
-abbrev pub anchored : How → AnchorRead → Ask VolumeRecord
-anchored how (NoAnchor r) = refuse r
-anchored how (AnAnchor a) =
+abbrev pub anchored : How → Result AnchorVolumeDescriptorPointer Refusal → Ask VolumeRecord
+anchored how (Err r) = refuse r
+anchored how (Ok a) =
     then (scan how.checked (a.main_volume_descriptor_sequence.length / 2048) a.main_volume_descriptor_sequence.location) (mounting how)
 
 -- the anchor stands in sector 256 (3/8.4.2.1)

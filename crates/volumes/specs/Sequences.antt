@@ -1,7 +1,6 @@
 -- The volume descriptor sequence (ECMA-167 3/8.4.2), and which of its descriptors prevail: RULES 5.3 to 5.6 and 5.20.
-use Rattle.std.specs.Prelude.{ℕ, zero, suc, ◌+◌, Bool, true, false, List, [], ◌∷◌, replicate, eqb, leb}
+use Rattle.std.specs.Prelude.{ℕ, zero, suc, ◌+◌, Bool, true, false, List, [], ◌∷◌, replicate, eqb, leb, Result, Ok, Err}
 use Rattle.disc.specs.Choice.{pick}
-use Rattle.disc.specs.Refusals.{number}
 use Rattle.disc.specs.Ask.{Ask, Outcome, then}
 use Rattle.disc.specs.Ask.Ask.{done, refuse, ask}
 use Rattle.disc.specs.Ask.Outcome.{answered, refused}
@@ -12,13 +11,12 @@ use Rattle.records.specs.Allocations.{no_long}
 use Rattle.descriptors.specs.Volumes.{read_primary, read_partition, read_logical}
 use Rattle.descriptors.specs.declared.primaries.PrimaryVolumeDescriptor.{PrimaryVolumeDescriptor}
 use Rattle.descriptors.specs.declared.partitions.PartitionDescriptor.{PartitionDescriptor}
-use Rattle.descriptors.specs.declared.partitions.PartitionRead.{PartitionRead}
-use Rattle.descriptors.specs.declared.partitions.PartitionRead.TheVariants.{Read as APartition, Refused as NoPartition}
 use Rattle.descriptors.specs.declared.logicals.LogicalVolumeDescriptor.{LogicalVolumeDescriptor}
 use Rattle.volumes.specs.declared.sequences.Kept.{Kept}
 use Rattle.volumes.specs.declared.sequences.Wanted.{Wanted}
 use Rattle.volumes.specs.declared.sequences.Wanted.TheVariants.{Any, Numbered}
 use Rattle.volumes.specs.declared.sequences.SectorTurn.{SectorTurn}
+use Rattle.volumes.specs.declared.sequences.SectorTurn.TheVariants.{GoesOn, Over, Fails}
 use Rattle.volumes.specs.declared.sequences.Scanned.{Scanned}
 use Rattle.volumes.specs.declared.openings.How.{How}
 
@@ -158,9 +156,9 @@ abbrev pub primary_in : Outcome PrimaryVolumeDescriptor → Says
 primary_in (answered d) = found (primary d)
 primary_in (refused r) = fails r
 
-abbrev pub partition_in : PartitionRead → Says
-partition_in (APartition d) = found (partition d)
-partition_in (NoPartition r) = fails r
+abbrev pub partition_in : Result PartitionDescriptor Refusal → Says
+partition_in (Ok d) = found (partition d)
+partition_in (Err r) = fails r
 
 abbrev pub logical_in : Outcome LogicalVolumeDescriptor → Says
 logical_in (answered d) = found (logical d)
@@ -190,15 +188,21 @@ scan check (suc n) at = ask at (λ b. go_on (says_in check b) (scan check n (at 
 
 -- ---- as the code reports it, where k was kept before
 
-abbrev pub turn_of : Order → (ℕ → Bool) → Kept → Says → SectorTurn
-turn_of prevails wanted k (found p) = record { going = true; answer = 0; kept = prevailing prevails wanted k p }
-turn_of prevails wanted k passed = record { going = true; answer = 0; kept = k }
-turn_of prevails wanted k over = record { going = false; answer = 0; kept = k }
-turn_of prevails wanted k (fails r) = record { going = false; answer = number r; kept = nothing }
+-- behind a descriptor that was looked at
+abbrev pub turned : Result Kept Refusal → SectorTurn
+turned (Ok k) = GoesOn k
+turned (Err r) = Fails r
 
+abbrev pub turn_of : Order → (ℕ → Bool) → Kept → Says → SectorTurn
+turn_of prevails wanted k (found p) = GoesOn (prevailing prevails wanted k p)
+turn_of prevails wanted k passed = GoesOn k
+turn_of prevails wanted k over = Over k
+turn_of prevails wanted k (fails r) = Fails r
+
+-- what the scan kept of the descriptors that it answered
 abbrev pub scanned_by : Order → (ℕ → Bool) → Kept → Outcome (List Parsed) → ℕ → Scanned
-scanned_by prevails wanted k (answered ps) n = record { answer = 0; count = n; kept = kept_of prevails wanted k ps }
-scanned_by prevails wanted k (refused r) n = record { answer = number r; count = n; kept = nothing }
+scanned_by prevails wanted k (answered ps) n = record { count = n; kept = Ok (kept_of prevails wanted k ps) }
+scanned_by prevails wanted k (refused r) n = record { count = n; kept = Err r }
 
 abbrev pub scanned_of : Order → (ℕ → Bool) → Kept → Ran (List Parsed) → Scanned
 scanned_of prevails wanted k r = scanned_by prevails wanted k r.outcome r.count

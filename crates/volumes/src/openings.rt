@@ -2,17 +2,19 @@
 ghost use Rattle.std.specs.Prelude.{◌≡◌, ◌<◌, ◌^◌};
 ghost use Rattle.disc.specs.Ran.{ran, after};
 ghost use Rattle.disc.specs.Images.{disc};
+ghost use Rattle.disc.specs.Replies.{returned};
 ghost use Rattle.descriptors.specs.FileSets.{read_file_set};
-ghost use Rattle.volumes.specs.Openings.{usual, no_volume, volume_in, file_set_at, file_set_on, mounting_of, anchored, opening, opened_by, opened_of};
-ghost use Rattle.volumes.specs.Inner.Steps.{mountable, scanned_in};
+ghost use Rattle.volumes.specs.Openings.{usual, no_volume, volume_in, file_set_at, file_set_on, mount_of, mounting_of, anchored, opening, opened_by, opened_of};
+ghost use Rattle.volumes.specs.Inner.Steps.{mountable, mount_behind, scanned_in};
 
 use crate::mounts::{chosen_mount, no_mount};
 use crate::sequences::{Kept, Wanted, scan_sequence};
-use descriptors::anchors::{AnchorRead, AnchorVolumeDescriptorPointer};
+use descriptors::anchors::AnchorVolumeDescriptorPointer;
 use descriptors::file_sets::FileSetDescriptor;
-use disc::answers::{DONE, IO, NOT_BLURAY, UNSUPPORTED};
+use disc::answers::{DONE, IO, UNSUPPORTED};
 use disc::images::{held_from, sector_at};
-use disc::places::{Block, Mount, PartitionRef, Placed, Sector};
+use disc::places::{Block, Mount, Sector};
+use disc::refusals::Refusal;
 use records::allocations::{LongAd, no_long};
 
 // The choices that are made on opening. Which descriptors count leaves no trace in the volume's record, which is what came out; that bodies are
@@ -90,37 +92,34 @@ pub fn refused(answer: u64, count: u64) -> Opened
 pub fn volume_in(check: bool, kept: Kept, mount: Mount, b: &[u8], count: u64) -> Opened
     ensures { result ≡ opened_by count (volume_in mount kept (read_file_set check b.now)) }
 {
-    let r = FileSetDescriptor::parse(check, b);
-    if r.answer != DONE {
-        return refused(r.answer, count);
-    }
-    let d = r.descriptor;
-    let root = d.root_directory_icb;
-    let label = kept.label;
-    Opened {
-        answer: DONE,
-        count,
-        volume: VolumeRecord { mount, root, label },
+    match FileSetDescriptor::parse(check, b) {
+        Err(why) => refused(why.number(), count),
+        Ok(d) => {
+            let label = kept.label;
+            Opened {
+                answer: DONE,
+                count,
+                volume: VolumeRecord {
+                    mount,
+                    root: d.root_directory_icb,
+                    label,
+                },
+            }
+        }
     }
 }
 
-// Whether what was kept leads to a file set descriptor: 0, or the number of the refusal.
-pub fn kept_answer(kept: Kept) -> u64
+// Whether what was kept leads to a file set descriptor.
+pub fn kept_answer(kept: Kept) -> Result<(), Refusal>
     ensures { result ≡ mountable kept }
 {
-    if !kept.has_primary {
-        return NOT_BLURAY;
-    }
-    if !kept.has_partition {
-        return NOT_BLURAY;
-    }
-    if !kept.has_logical {
-        return NOT_BLURAY;
+    if !kept.has_primary || !kept.has_partition || !kept.has_logical {
+        return Err(Refusal::NotBluray);
     }
     if kept.block_size != 2048 {
-        return UNSUPPORTED;
+        return Err(Refusal::Unsupported);
     }
-    DONE
+    Ok(())
 }
 
 // The file set descriptor in a sector, `count` sectors having been asked for.
@@ -147,10 +146,18 @@ fn file_set_on(check: bool, image: &[u8], kept: Kept, mount: Mount, count: u64) 
     ensures { result ≡ opened_of (after count (ran (disc image.now) (file_set_on check kept mount))) }
 {
     let place = kept.file_set.location;
-    match mount.placed(PartitionRef::Named(place.partition_ref), Block(place.block)) {
-        Placed::Nowhere => refused(UNSUPPORTED, count),
-        Placed::At(sector) => file_set_at(check, image, kept, mount, sector, count),
+    match mount.placed(Some(place.partition_ref), Block(place.block)) {
+        None => refused(UNSUPPORTED, count),
+        Some(sector) => file_set_at(check, image, kept, mount, sector, count),
     }
+}
+
+// How the volume is read, if what was kept leads to a file set descriptor.
+fn kept_mount(image: &[u8], how: How, kept: Kept, first: u32, n: u32) -> Result<Mount, Refusal>
+    ensures { result ≡ mount_behind (mountable kept) (returned (mount_of how (scanned_in image.now how first n) kept)) }
+{
+    kept_answer(kept)?;
+    chosen_mount(image, how, kept, first, n)
 }
 
 // What the descriptors that were kept lead to, of n sectors from `first` on, `count` sectors having been asked for.
@@ -158,39 +165,31 @@ fn open_kept(image: &[u8], how: How, kept: Kept, first: u32, n: u32, count: u64)
     requires { count < 2 ^ 32 }
     ensures { result ≡ opened_of (after count (ran (disc image.now) (mounting_of how (scanned_in image.now how first n) kept))) }
 {
-    let answer = kept_answer(kept);
-    if answer != DONE {
-        return refused(answer, count);
+    match kept_mount(image, how, kept, first, n) {
+        Err(why) => refused(why.number(), count),
+        Ok(mount) => file_set_on(how.checked, image, kept, mount, count),
     }
-    let read = chosen_mount(image, how, kept, first, n);
-    if read.answer != DONE {
-        return refused(read.answer, count);
-    }
-    let m = read.mount;
-    file_set_on(how.checked, image, kept, m, count)
 }
 
 // What the anchor leads to.
-fn open_from(image: &[u8], how: How, anchor: AnchorRead) -> Opened
+fn open_from(
+    image: &[u8],
+    how: How,
+    anchor: Result<AnchorVolumeDescriptorPointer, Refusal>,
+) -> Opened
     ensures { result ≡ opened_of (after 1 (ran (disc image.now) (anchored how anchor))) }
 {
     match anchor {
-        AnchorRead::Refused(why) => refused(why.number(), 1),
-        AnchorRead::Read(a) => {
+        Err(why) => refused(why.number(), 1),
+        Ok(a) => {
             let main = a.main_volume_descriptor_sequence;
             let n = main.length / 2048;
             let scanned = scan_sequence(image, how, Wanted::Any, main.location, n);
-            if scanned.answer != DONE {
-                return refused(scanned.answer, scanned.count + 1);
+            let count = scanned.count + 1;
+            match scanned.kept {
+                Err(why) => refused(why.number(), count),
+                Ok(kept) => open_kept(image, how, kept, main.location, n, count),
             }
-            open_kept(
-                image,
-                how,
-                scanned.kept,
-                main.location,
-                n,
-                scanned.count + 1,
-            )
         }
     }
 }

@@ -1,18 +1,18 @@
 // The volume descriptor sequence: one pass over its sectors, each looked at where it stands in the image.
-ghost use Rattle.std.specs.Prelude.{◌≡◌, true, false};
+ghost use Rattle.std.specs.Prelude.{◌≡◌, true};
 ghost use Rattle.disc.specs.Choice.{pick};
 ghost use Rattle.disc.specs.Ran.{ran};
 ghost use Rattle.disc.specs.Images.{disc};
-ghost use Rattle.descriptors.specs.Volumes.{read_primary, read_logical};
-ghost use Rattle.volumes.specs.Sequences.{nothing, order_of, any_partition, wanted_of, primary_in, partition_in, logical_in, says_in, turn_of, scan, scanned_of};
+ghost use Rattle.descriptors.specs.Volumes.{read_primary, read_partition, read_logical};
+ghost use Rattle.volumes.specs.Sequences.{nothing, order_of, any_partition, wanted_of, primary_in, partition_in, logical_in, says_in, turned, turn_of, scan, scanned_of};
 
 use crate::openings::How;
 use descriptors::logicals::LogicalVolumeDescriptor;
-use descriptors::partitions::{PartitionDescriptor, PartitionRead};
+use descriptors::partitions::PartitionDescriptor;
 use descriptors::primaries::PrimaryVolumeDescriptor;
-use disc::answers::{DONE, IO};
 use disc::images::{held_from, sector_at};
 use disc::places::Sector;
+use disc::refusals::Refusal;
 use records::allocations::{LongAd, no_long};
 use records::bytes::le16;
 
@@ -37,7 +37,7 @@ pub struct Kept {
     pub maps: [u8; 24],
 }
 
-// Which partition descriptors count.
+// Which partition descriptors count. No Option: `Any` is a choice, where None would read as no partition.
 #[derive(Clone, Copy)]
 pub enum Wanted {
     Any,
@@ -45,20 +45,22 @@ pub enum Wanted {
     Numbered(u16),
 }
 
-// What one sector of the sequence comes to: the scan goes on or is over, or is refused.
+// What one sector of the sequence comes to.
 #[derive(Clone, Copy)]
-pub struct SectorTurn {
-    pub going: bool,
-    pub answer: u64,
-    pub kept: Kept,
+pub enum SectorTurn {
+    // The scan goes on, with what is kept so far.
+    GoesOn(Kept),
+    // The sequence ends here.
+    Over(Kept),
+    Fails(Refusal),
 }
 
 // What a scan comes to.
 #[derive(Clone, Copy)]
 pub struct Scanned {
-    pub answer: u64,
+    // The sectors asked for.
     pub count: u64,
-    pub kept: Kept,
+    pub kept: Result<Kept, Refusal>,
 }
 
 // Before the first descriptor.
@@ -83,23 +85,13 @@ pub fn nothing_kept() -> Kept
     }
 }
 
-fn goes_on(k: Kept) -> SectorTurn
-    ensures { result ≡ record { going = true; answer = 0; kept = k } }
+// A descriptor was looked at: the scan goes on, or is refused.
+fn turned(r: Result<Kept, Refusal>) -> SectorTurn
+    ensures { result ≡ turned r }
 {
-    SectorTurn {
-        going: true,
-        answer: DONE,
-        kept: k,
-    }
-}
-
-fn fails(answer: u64) -> SectorTurn
-    ensures { result ≡ record { going = false; answer = answer; kept = nothing } }
-{
-    SectorTurn {
-        going: false,
-        answer,
-        kept: nothing_kept(),
+    match r {
+        Ok(k) => SectorTurn::GoesOn(k),
+        Err(why) => SectorTurn::Fails(why),
     }
 }
 
@@ -133,105 +125,74 @@ fn is_wanted(wanted: Wanted, number: u16) -> bool
     }
 }
 
-fn take_primary(how: How, k: Kept, b: &[u8]) -> SectorTurn
-    ensures { result ≡ turn_of (order_of how) any_partition k (primary_in (read_primary how.checked b.now)) }
+fn take_primary(how: How, k: Kept, b: &[u8]) -> Result<Kept, Refusal>
+    ensures { turned result ≡ turn_of (order_of how) any_partition k (primary_in (read_primary how.checked b.now)) }
 {
-    let r = PrimaryVolumeDescriptor::parse(how.checked, b);
-    if r.answer != DONE {
-        return fails(r.answer);
-    }
-    let d = r.descriptor;
+    let d = PrimaryVolumeDescriptor::parse(how.checked, b)?;
     let number = d.volume_descriptor_sequence_number;
     if !is_taken(how, k.has_primary, k.primary_sequence, number) {
-        return goes_on(k);
+        return Ok(k);
     }
     let label = d.volume_identifier;
-    let mut next = k;
-    next.has_primary = true;
-    next.primary_sequence = number;
-    next.label = label;
-    goes_on(next)
+    Ok(Kept {
+        has_primary: true,
+        primary_sequence: number,
+        label,
+        ..k
+    })
 }
 
-fn take_partition(how: How, wanted: Wanted, k: Kept, r: PartitionRead) -> SectorTurn
-    ensures { result ≡ turn_of (order_of how) (wanted_of wanted) k (partition_in r) }
+fn take_partition(how: How, wanted: Wanted, k: Kept, b: &[u8]) -> Result<Kept, Refusal>
+    ensures { turned result ≡ turn_of (order_of how) (wanted_of wanted) k (partition_in (read_partition how.checked b.now)) }
 {
-    match r {
-        PartitionRead::Refused(why) => fails(why.number()),
-        PartitionRead::Read(d) => {
-            if !is_wanted(wanted, d.partition_number) {
-                return goes_on(k);
-            }
-            let number = d.volume_descriptor_sequence_number;
-            if !is_taken(how, k.has_partition, k.partition_sequence, number) {
-                return goes_on(k);
-            }
-            let mut next = k;
-            next.has_partition = true;
-            next.partition_sequence = number;
-            next.partition_number = d.partition_number;
-            next.partition_start = d.partition_starting_location;
-            goes_on(next)
-        }
+    let d = PartitionDescriptor::parse(how.checked, b)?;
+    if !is_wanted(wanted, d.partition_number) {
+        return Ok(k);
     }
+    let number = d.volume_descriptor_sequence_number;
+    if !is_taken(how, k.has_partition, k.partition_sequence, number) {
+        return Ok(k);
+    }
+    Ok(Kept {
+        has_partition: true,
+        partition_sequence: number,
+        partition_number: d.partition_number,
+        partition_start: d.partition_starting_location,
+        ..k
+    })
 }
 
-fn take_logical(how: How, k: Kept, b: &[u8]) -> SectorTurn
-    ensures { result ≡ turn_of (order_of how) any_partition k (logical_in (read_logical how.checked b.now)) }
+fn take_logical(how: How, k: Kept, b: &[u8]) -> Result<Kept, Refusal>
+    ensures { turned result ≡ turn_of (order_of how) any_partition k (logical_in (read_logical how.checked b.now)) }
 {
-    let r = LogicalVolumeDescriptor::parse(how.checked, b);
-    if r.answer != DONE {
-        return fails(r.answer);
-    }
-    let d = r.descriptor;
+    let d = LogicalVolumeDescriptor::parse(how.checked, b)?;
     let number = d.volume_descriptor_sequence_number;
     if !is_taken(how, k.has_logical, k.logical_sequence, number) {
-        return goes_on(k);
+        return Ok(k);
     }
-    let file_set = d.file_set_descriptor_location;
     let maps = d.partition_maps;
-    let mut next = k;
-    next.has_logical = true;
-    next.logical_sequence = number;
-    next.block_size = d.logical_block_size;
-    next.file_set = file_set;
-    next.map_table_length = d.map_table_length;
-    next.map_count = d.number_of_partition_maps;
-    next.maps = maps;
-    goes_on(next)
+    Ok(Kept {
+        has_logical: true,
+        logical_sequence: number,
+        block_size: d.logical_block_size,
+        file_set: d.file_set_descriptor_location,
+        map_table_length: d.map_table_length,
+        map_count: d.number_of_partition_maps,
+        maps,
+        ..k
+    })
 }
 
 // One sector of the sequence, by its id.
 pub fn take_sector(how: How, wanted: Wanted, k: Kept, b: &[u8]) -> SectorTurn
     ensures { result ≡ turn_of (order_of how) (wanted_of wanted) k (says_in how.checked b.now) }
 {
-    let id = le16(b, 0);
-    if id == 1 {
-        return take_primary(how, k, b);
-    }
-    if id == 5 {
-        return take_partition(how, wanted, k, PartitionDescriptor::parse(how.checked, b));
-    }
-    if id == 6 {
-        return take_logical(how, k, b);
-    }
-    if id == 8 {
-        return SectorTurn {
-            going: false,
-            answer: DONE,
-            kept: k,
-        };
-    }
-    goes_on(k)
-}
-
-fn scan_refused(answer: u64, count: u64) -> Scanned
-    ensures { result ≡ record { answer = answer; count = count; kept = nothing } }
-{
-    Scanned {
-        answer,
-        count,
-        kept: nothing_kept(),
+    match le16(b, 0) {
+        1 => turned(take_primary(how, k, b)),
+        5 => turned(take_partition(how, wanted, k, b)),
+        6 => turned(take_logical(how, k, b)),
+        8 => SectorTurn::Over(k),
+        _ => SectorTurn::GoesOn(k),
     }
 }
 
@@ -240,27 +201,33 @@ pub fn scan_sequence(image: &[u8], how: How, wanted: Wanted, first: u32, n: u32)
     ensures { result ≡ scanned_of (order_of how) (wanted_of wanted) nothing (ran (disc image.now) (scan how.checked n first)) }
 {
     let mut kept = nothing_kept();
-    let mut i: u32 = 0;
-    while i < n {
-        let at = first as u64 + i as u64;
-        if held_from(image, Sector(at)) == 0 {
-            return scan_refused(IO, i as u64 + 1);
-        }
-        let turn = take_sector(how, wanted, kept, sector_at(image, Sector(at)));
-        let next = turn.kept;
-        if !turn.going {
+    for i in 0..n {
+        let at = Sector(first as u64 + i as u64);
+        let count = i as u64 + 1;
+        if held_from(image, at) == 0 {
             return Scanned {
-                answer: turn.answer,
-                count: i as u64 + 1,
-                kept: next,
+                count,
+                kept: Err(Refusal::Io),
             };
         }
-        kept = next;
-        i += 1;
+        match take_sector(how, wanted, kept, sector_at(image, at)) {
+            SectorTurn::GoesOn(next) => kept = next,
+            SectorTurn::Over(last) => {
+                return Scanned {
+                    count,
+                    kept: Ok(last),
+                };
+            }
+            SectorTurn::Fails(why) => {
+                return Scanned {
+                    count,
+                    kept: Err(why),
+                };
+            }
+        }
     }
     Scanned {
-        answer: DONE,
         count: n as u64,
-        kept,
+        kept: Ok(kept),
     }
 }

@@ -1,7 +1,7 @@
 -- The worked table of the rules, its thirteen cases as one statement, by computation. Assumes nothing.
+use Rattle.std.specs.Prelude.{Some, None}
 use mathlib.Core.Path.{◌≡◌}
 use mathlib.Core.List.{[], ◌∷◌}
-use mathlib.Core.Option.{none, some}
 use lib.ListN.{replicate, take}
 use Rattle.records.specs.Allocations.{read_short}
 use Rattle.records.specs.Answers.{short_answer}
@@ -9,7 +9,6 @@ use Rattle.tags.specs.Tags.{read_tag}
 use Rattle.tags.specs.Answers.{no_tag, tag_answer}
 use Rattle.areas.specs.Areas.{continuation, area_at}
 use Rattle.areas.specs.Answers.{ending_answer}
-use Rattle.disc.specs.declared.places.PartitionRef.TheVariants.{Named}
 use Rattle.names.specs.Names.{name_of, name_answer}
 use Rattle.tags.proofs.Table.{table}
 use Rattle.areas.proofs.Table.{ends-worked, continues-worked}
@@ -27,10 +26,10 @@ pub worked-table :
     × (short_answer (read_short (0x00 ∷ 0x08 ∷ 0x00 ∷ 0x40 ∷ 0x05 ∷ 0x00 ∷ 0x00 ∷ 0x00 ∷ []))
     ≡ record { number = 0; value = record { length = 2048; extent_type = 1; block_location = 5 } })
     × (((area_at 0 (0x00 ∷ 0x00 ∷ 0x00 ∷ 0xc0 ∷ 0x07 ∷ 0x00 ∷ 0x00 ∷ 0x00 ∷ []) 0 8).extents ≡ [])
-    × (ending_answer (area_at 0 (0x00 ∷ 0x00 ∷ 0x00 ∷ 0xc0 ∷ 0x07 ∷ 0x00 ∷ 0x00 ∷ 0x00 ∷ []) 0 8).ending ≡ record { number = 0; value = none }))
+    × (ending_answer (area_at 0 (0x00 ∷ 0x00 ∷ 0x00 ∷ 0xc0 ∷ 0x07 ∷ 0x00 ∷ 0x00 ∷ 0x00 ∷ []) 0 8).ending ≡ record { number = 0; value = None }))
     × (((area_at 1 (0x18 ∷ 0x00 ∷ 0x00 ∷ 0xc0 ∷ 0x09 ∷ 0x00 ∷ 0x00 ∷ 0x00 ∷ 0x01 ∷ 0x00 ∷ replicate 6 0x00) 0 16).extents ≡ [])
     × (ending_answer (area_at 1 (0x18 ∷ 0x00 ∷ 0x00 ∷ 0xc0 ∷ 0x09 ∷ 0x00 ∷ 0x00 ∷ 0x00 ∷ 0x01 ∷ 0x00 ∷ replicate 6 0x00) 0 16).ending
-    ≡ record { number = 0; value = some (continuation 24 (record { 0 = 9 }) (Named 1)) }))
+    ≡ record { number = 0; value = Some (continuation 24 (record { 0 = 9 }) (Some 1)) }))
     × (name_answer (name_of (0x08 ∷ 0x41 ∷ 0x00 ∷ 0x42 ∷ [])) ≡ record { number = 0; value = 0x41 ∷ [] })
     × (name_answer (name_of (0x10 ∷ 0x00 ∷ 0x41 ∷ 0xd8 ∷ 0x00 ∷ 0x00 ∷ 0x42 ∷ [])) ≡ record { number = 0; value = 0x41 ∷ 0x42 ∷ [] })
     × (name_answer (name_of (0x10 ∷ 0x00 ∷ 0x41 ∷ 0x00 ∷ [])) ≡ record { number = 2; value = [] })

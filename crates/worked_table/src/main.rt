@@ -3,10 +3,13 @@
 
 use areas::{AdContinuation, AdCursor, AdEnding, ending_of};
 use disc::refusals::Refusal;
-use names::dstrings::{NameSize, name_size, put_name};
-use programs::words::{end_line, number, say, say_byte, say_decimal, say_partition, say_refusal};
-use records::allocations::{ShortAd, ShortRead};
-use tags::{DescriptorTag, TagRead};
+use names::dstrings::{name_size, put_name};
+use programs::lent::front;
+use programs::words::{
+    end_line, number8, number16, number32, say, say_bytes, say_decimal, say_partition, say_refusal,
+};
+use records::allocations::ShortAd;
+use tags::DescriptorTag;
 
 fn case(n: u64) {
     say_decimal(n);
@@ -18,13 +21,13 @@ fn refused(why: Refusal) {
     end_line();
 }
 
-fn show_tag(r: TagRead) {
+fn show_tag(r: Result<DescriptorTag, Refusal>) {
     match r {
-        TagRead::Refused(why) => refused(why),
-        TagRead::Read(t) => {
-            number(t.id as u64);
-            number(t.descriptor_version as u64);
-            number(t.location as u64);
+        Err(why) => refused(why),
+        Ok(t) => {
+            number16(t.id);
+            number16(t.descriptor_version);
+            number32(t.location);
             end_line();
         }
     }
@@ -54,13 +57,13 @@ fn tag_cases() {
     show_tag(DescriptorTag::parse(&zeros));
 }
 
-fn show_short(r: ShortRead) {
+fn show_short(r: Result<ShortAd, Refusal>) {
     match r {
-        ShortRead::Refused(why) => refused(why),
-        ShortRead::Read(a) => {
-            number(a.length as u64);
-            number(a.extent_type as u64);
-            number(a.block_location as u64);
+        Err(why) => refused(why),
+        Ok(a) => {
+            number32(a.length);
+            number8(a.extent_type);
+            number32(a.block_location);
             end_line();
         }
     }
@@ -68,8 +71,8 @@ fn show_short(r: ShortRead) {
 
 fn show_continuation(a: AdContinuation) {
     say(b" continuation");
-    number(a.length as u64);
-    number(a.block.0 as u64);
+    number32(a.length);
+    number32(a.block.0);
     let partition = a.partition_ref;
     say_partition(partition);
     end_line();
@@ -99,27 +102,14 @@ fn allocations() {
     show_ending(ending_of(&continued, 1, AdCursor { at: 0, left: 16 }));
 }
 
-// The first bytes of a name, which has at most three.
-fn show_bytes(n: usize, name: [u8; 3]) {
-    if 0 < n {
-        say_byte(name[0]);
-    }
-    if 1 < n {
-        say_byte(name[1]);
-    }
-    if 2 < n {
-        say_byte(name[2]);
-    }
-    end_line();
-}
-
-fn show_name(s: &[u8], size: NameSize) {
+fn show_name(s: &[u8], size: Result<usize, Refusal>) {
     match size {
-        NameSize::Refused(why) => refused(why),
-        NameSize::Size(n) => {
+        Err(why) => refused(why),
+        Ok(n) => {
             let mut name = [0u8; 3];
             put_name(s, &mut name);
-            show_bytes(n, name);
+            say_bytes(front(&name, n));
+            end_line();
         }
     }
 }

@@ -7,23 +7,40 @@
 // tools/writer_model.py computes what is expected, from the cases, docs/LAYOUT.md and the rules.
 #![tactic(auto)]
 
-ghost use Rattle.std.specs.Prelude.{◌<◌, ◌≤◌, length};
+ghost use Rattle.std.specs.Prelude.{◌<◌, length, IfOk};
 
 use disc::answers::DONE;
-use disc::moves::least;
 use disc::replies::Reply;
 use listings::matchings::Matching;
 use programs::lent::{fill, front, mebibyte, part, sum, two_mebibytes};
-use programs::words::{end_line, say, say_answer, say_named, say_zero};
+use programs::read_full;
+use programs::words::{say_answer, say_named, say_zero};
 use records::bytes::{le16, le32, le64};
 use sparse::expand;
-use std::fs;
+use std::alloc::{AllocError, Global};
 use std::fs::File;
 use std::os::fd::AsRawFd;
 use std::rt::Files;
+use std::{fs, io};
 use vault::volume::Volume;
 use volumes::openings::{How, VolumeRecord};
 use writers::{WriteReply, total, write};
+
+// The bytes of the staging area.
+const STAGED: usize = 1048576;
+
+// The bytes of output and of work space that are lent, and the most bytes of the stored disc.
+const SPACE: usize = 65536;
+
+// The most lengths of a case.
+const LENGTHS: usize = 80;
+
+// Memory to be lent, full of A5.
+fn lent(alloc: Global, n: usize) -> Result<Vec<u8>, AllocError> {
+    let mut bytes = vec![in alloc; 0; n]?;
+    fill(&mut bytes);
+    Ok(bytes)
+}
 
 // ---- the staging area
 
@@ -31,12 +48,8 @@ fn staged(k: usize) -> u8 {
     ((k % 256 * 7 + k / 2048) % 256) as u8
 }
 
-fn stage(staging: &mut [u8]) {
-    let mut k = 0;
-    while k < staging.len() {
-        staging[k] = staged(k);
-        k += 1;
-    }
+fn staging_area(alloc: Global) -> Result<Vec<u8>, AllocError> {
+    (0..STAGED).map(staged).collect(alloc)
 }
 
 // ---- reading back
@@ -48,58 +61,53 @@ fn say_left(call: &[u8], reply: Reply, out: &[u8], work: &[u8]) {
     say_zero(work);
 }
 
-// A byte that the call leaves alone is still A5.
-fn lend(out: &mut [u8], work: &mut [u8]) {
-    fill(out);
-    fill(work);
-}
-
-fn list(v: VolumeRecord, image: &[u8], out: &mut [u8], work: &mut [u8]) {
-    lend(out, work);
+fn list(rt: &(impl Print + AllocGlobal), v: VolumeRecord, image: &[u8]) -> io::Result<()> {
+    let mut out = lent(rt.alloc(), SPACE)?;
+    let mut work = lent(rt.alloc(), SPACE)?;
     let root = v.root;
-    let volume = Volume(v);
-    let reply = volume.list(image, root, out, work);
-    say_left(b"list ", reply, out, work);
+    let reply = Volume(v).list(image, root, &mut out, &mut work);
+    say_left(b"list ", reply, &out, &work);
+    Ok(())
 }
 
-fn read(v: VolumeRecord, image: &[u8], name: &[u8], out: &mut [u8], work: &mut [u8]) {
-    lend(out, work);
-    let volume = Volume(v);
-    let reply = volume.read_path(image, name, Matching::Unambiguous, out, work);
-    say_left(b"read ", reply, out, work);
+fn read(
+    rt: &(impl Print + AllocGlobal),
+    v: VolumeRecord,
+    image: &[u8],
+    name: &[u8],
+) -> io::Result<()> {
+    let mut out = lent(rt.alloc(), SPACE)?;
+    let mut work = lent(rt.alloc(), SPACE)?;
+    let matching = Matching::Unambiguous;
+    let reply = Volume(v).read_path(image, name, matching, &mut out, &mut work);
+    say_left(b"read ", reply, &out, &work);
+    Ok(())
 }
 
-// Where the name that starts at `at` ends.
-fn name_end(names: &[u8], at: usize) -> usize
-    requires { at < length names.now }
-    ensures { (at ≤ result) × (result ≤ length names.now) }
-{
-    let mut i = at;
-    while i < names.len() {
-        if names[i] == 0 {
-            return i;
-        }
-        i += 1;
+// Reads the file of each name. A zero ends each.
+fn read_each(
+    rt: &(impl Print + AllocGlobal),
+    v: VolumeRecord,
+    image: &[u8],
+    names: &[u8],
+) -> io::Result<()> {
+    for name in names.split_inclusive(|b| *b == 0) {
+        read(rt, v, image, name.strip_suffix(b"\0").unwrap_or(name))?;
     }
-    i
+    Ok(())
 }
 
-fn read_each(v: VolumeRecord, image: &[u8], names: &[u8], out: &mut [u8], work: &mut [u8]) {
-    let mut i = 0;
-    while i < names.len() {
-        let end = name_end(names, i);
-        read(v, image, part(names, i, end), out, work);
-        i = end + 1;
-    }
-}
-
-fn read_back(image: &[u8], names: &[u8], how: How, out: &mut [u8], work: &mut [u8]) {
+fn read_back(
+    rt: &(impl Print + AllocGlobal),
+    image: &[u8],
+    names: &[u8],
+    how: How,
+) -> io::Result<()> {
     let opened = Volume::open(image, how);
     let v = opened.volume;
-    say_answer(b"open ", opened.answer, opened.count);
-    end_line();
-    list(v, image, out, work);
-    read_each(v, image, names, out, work);
+    println!(rt; "open {} count {}", opened.answer, opened.count)?;
+    list(rt, v, image)?;
+    read_each(rt, v, image, names)
 }
 
 fn every_choice() -> How {
@@ -112,183 +120,171 @@ fn every_choice() -> How {
 
 // ---- writing
 
-fn say_reply(call: &[u8], reply: WriteReply) {
-    say_named(call, reply.answer);
-    say_named(b" sectors ", reply.sectors);
+fn say_reply(rt: &impl Print, call: &str, reply: WriteReply) -> io::Result<()> {
+    print!(rt; "{call} {} sectors {}", reply.answer, reply.sectors)
 }
 
 // Sectors 0 to 279, the directory, the entries, the files with the last anchor, and what is after the image.
-fn say_parts(image: &[u8], end: usize) {
-    say_named(b"front ", sum(part(image, 0, 573440)));
-    say_named(b" directory ", sum(part(image, 573440, 589824)));
-    say_named(b" entries ", sum(part(image, 589824, 720896)));
-    say_named(b" files ", sum(part(image, 720896, end)));
-    say_named(b" behind ", sum(part(image, end, image.len())));
-    end_line();
+fn say_parts(rt: &impl Print, image: &[u8], end: usize) -> io::Result<()> {
+    println!(rt;
+        "front {} directory {} entries {} files {} behind {}",
+        sum(part(image, 0, 573440)),
+        sum(part(image, 573440, 589824)),
+        sum(part(image, 589824, 720896)),
+        sum(part(image, 720896, end)),
+        sum(part(image, end, image.len()))
+    )
 }
 
 // The bytes of this many sectors, at most `most`.
 fn bytes_of(sectors: u64, most: usize) -> usize {
-    least((sectors % 1048576) as usize * 2048, most)
+    most.min((sectors % 1048576) as usize * 2048)
 }
 
-fn write_one(names: &[u8], lengths: &[u64], staging: &[u8], image: &mut [u8]) -> WriteReply {
-    fill(image);
-    let reply = write(names, lengths, staging, image);
-    say_reply(b"write ", reply);
-    say_named(b" sum ", sum(image));
-    end_line();
-    reply
-}
-
-fn say_back(names: &[u8], image: &[u8], out: &mut [u8], work: &mut [u8]) {
-    read_back(image, names, How::usual(), out, work);
-    read_back(image, names, every_choice(), out, work);
-}
-
-fn one(
+fn write_one(
+    rt: &impl Print,
     names: &[u8],
     lengths: &[u64],
     staging: &[u8],
     image: &mut [u8],
-    out: &mut [u8],
-    work: &mut [u8],
-) {
-    say_reply(b"total ", total(names, lengths));
-    end_line();
-    let reply = write_one(names, lengths, staging, image);
+) -> io::Result<WriteReply> {
+    fill(image);
+    let reply = write(names, lengths, staging, image);
+    say_reply(rt, "write", reply)?;
+    println!(rt; " sum {}", sum(image))?;
+    Ok(reply)
+}
+
+fn one(
+    rt: &(impl Print + AllocGlobal),
+    names: &[u8],
+    lengths: &[u64],
+    staging: &[u8],
+    image: &mut [u8],
+) -> io::Result<()> {
+    say_reply(rt, "total", total(names, lengths))?;
+    println!(rt)?;
+    let reply = write_one(rt, names, lengths, staging, image)?;
     if reply.answer != DONE {
-        return;
+        return Ok(());
     }
-    say_parts(image, bytes_of(reply.sectors, image.len()));
-    say_back(names, image, out, work);
+    say_parts(rt, image, bytes_of(reply.sectors, image.len()))?;
+    read_back(rt, image, names, How::usual())?;
+    read_back(rt, image, names, every_choice())
 }
 
 // ---- the file of cases
 
-// Stores the lengths in the row, as many as it has places; returns how many.
-fn put_row(all: &[u8], row: &mut [u64]) -> usize
-    ensures { result ≤ length row.old }
-{
-    let n = least(all.len() / 8, row.len());
-    let mut i = 0;
-    while i < n {
-        row[i] = le64(all, i * 8);
-        i += 1;
-    }
-    n
+fn lengths_of(row: &[u8], alloc: Global) -> Result<Vec<u64>, AllocError> {
+    row.chunks_exact(8)
+        .take(LENGTHS)
+        .map(|n| le64(n, 0))
+        .collect(alloc)
 }
 
 // Runs a case with its lengths, and with the sizes of its staging area and its slice.
 fn with_row(
+    rt: &(impl Print + AllocGlobal),
     names: &[u8],
     sizes: &[u8],
     row: &[u8],
     staging: &[u8],
     image: &mut [u8],
-    out: &mut [u8],
-    work: &mut [u8],
-) {
-    let mut lengths = [0u64; 80];
-    let n = put_row(row, &mut lengths);
-    let bytes = least(le32(sizes, 0) as usize, staging.len());
-    let room = least(le32(sizes, 4) as usize, image.len());
-    one(
-        names,
-        &lengths[..n],
-        &staging[..bytes],
-        &mut image[..room],
-        out,
-        work,
-    );
+) -> io::Result<()> {
+    let lengths = lengths_of(row, rt.alloc())?;
+    let bytes = front(staging, le32(sizes, 0) as usize);
+    let room = image.len().min(le32(sizes, 4) as usize);
+    one(rt, names, &lengths, bytes, &mut image[..room])
 }
 
 // Runs the case at i; returns where the next one is.
 fn run(
+    rt: &(impl Print + AllocGlobal),
     all: &[u8],
     i: usize,
     staging: &[u8],
     image: &mut [u8],
-    out: &mut [u8],
-    work: &mut [u8],
-) -> usize
+) -> io::Result<usize>
     requires { i < length all.now }
-    ensures { i < result }
+    ensures { IfOk result (λ next. i < next) }
 {
     let names = i + 2 + le16(all, i) as usize;
-    say(b"case ");
-    say(part(all, i + 2, names));
-    end_line();
+    // The title is shown as it is stored, whatever its bytes are.
+    print!(rt; "case ")?;
+    rt.write_all(part(all, i + 2, names))?;
+    println!(rt)?;
     let row = names + 4 + le32(all, names) as usize;
     let sizes = row + 4 + le32(all, row) as usize;
     let next = sizes + 8;
     with_row(
+        rt,
         part(all, names + 4, row),
         part(all, sizes, next),
         part(all, row + 4, sizes),
         staging,
         image,
-        out,
-        work,
-    );
-    next
+    )?;
+    Ok(next)
 }
 
-fn run_all(all: &[u8], staging: &[u8], image: &mut [u8], out: &mut [u8], work: &mut [u8]) {
+fn run_all(
+    rt: &(impl Print + AllocGlobal),
+    all: &[u8],
+    staging: &[u8],
+    image: &mut [u8],
+) -> io::Result<()> {
     let mut i = 0;
+    // A `while`, since each case says itself where the next one starts: `for` is no plainer.
     while i < all.len() {
-        i = run(all, i, staging, image, out, work);
+        i = run(rt, all, i, staging, image)?;
     }
+    Ok(())
 }
 
 // ---- the stored disc
 
-fn is_same(a: &[u8], b: &[u8]) -> bool {
-    if a.len() != b.len() {
-        return false;
-    }
-    let mut i = 0;
-    while i < a.len() {
-        if a[i] != b[i] {
-            return false;
-        }
-        i += 1;
-    }
-    true
-}
-
-fn compare(packed: &[u8], staging: &[u8], stored: &mut [u8], image: &mut [u8]) {
-    let lengths = [0u64, 2049, 2048, 5000];
+// Writes a disc into `image`, and unpacks the stored one into `stored`.
+fn compare(
+    rt: &impl Print,
+    packed: &[u8],
+    staging: &[u8],
+    stored: &mut [u8],
+    image: &mut [u8],
+) -> io::Result<()> {
     let n = expand(packed, stored);
     let reply = write(
         b"9\x0010.1A\x00Interval.look\x0011\x00",
-        &lengths,
+        &[0, 2049, 2048, 5000],
         staging,
         image,
     );
-    say_reply(b"written ", reply);
-    if is_same(part(stored, 0, n), part(image, 0, n)) {
-        say(b" same\n");
-        return;
-    }
-    say(b" another\n");
+    say_reply(rt, "written", reply)?;
+    let is_same = front(stored, n) == front(image, n);
+    println!(rt; " {}", if is_same { "same" } else { "another" })
 }
 
-fn read_file(rt: &impl Files<File = File>, name: &str, bytes: &mut [u8]) -> std::io::Result<usize> {
+// Reads as much of a file as there is room for. A read that fails ends it.
+fn read_file(rt: &impl Files<File = File>, name: &str, bytes: &mut [u8]) -> io::Result<usize> {
     let file = fs::open(rt, name)?;
-    Ok(io::read_full(file.as_raw_fd(), bytes))
+    Ok(read_full(file.as_raw_fd(), bytes))
 }
 
-fn main(rt: HostRuntime) -> std::io::Result<()> {
+// A line that can't be written doesn't change the exit status. Memory that runs out does.
+fn unless_unwritten(r: io::Result<()>) -> io::Result<()> {
+    match r {
+        Err(e) if e.kind() != io::ErrorKind::OutOfMemory => Ok(()),
+        _ => r,
+    }
+}
+
+fn main(rt: HostRuntime) -> io::Result<()> {
+    let staging = staging_area(rt.alloc())?;
+    // A mebibyte of the cases is looked at, and of the stored disc.
     let mut all = mebibyte();
-    let mut staging = mebibyte();
-    let mut image = two_mebibytes();
-    let mut out = io::large_buffer();
-    let mut work = io::large_buffer();
-    stage(&mut staging);
     let n = read_file(&rt, "cases", &mut all)?;
-    run_all(front(&all, n), &staging, &mut image, &mut out, &mut work);
-    let m = read_file(&rt, "written", &mut work)?;
-    compare(front(&work, m), &staging, &mut all, &mut image);
-    Ok(())
+    let mut image = two_mebibytes();
+    unless_unwritten(run_all(&rt, front(&all, n), &staging, &mut image))?;
+    let mut packed = [0; SPACE];
+    let m = read_file(&rt, "written", &mut packed)?;
+    unless_unwritten(compare(&rt, front(&packed, m), &staging, &mut all, &mut image))
 }

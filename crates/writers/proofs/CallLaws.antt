@@ -4,21 +4,23 @@ use mathlib.Core.Bool.{Bool, true, false}
 use mathlib.Core.List.{List, ◌++◌, append_assoc}
 use Prim.Native.Nat.{ℕ, ◌+◌, ◌-◌, ◌*◌, ◌/◌, ◌<◌, ◌≤◌}
 use native.Mathlib.Omega.{arith}
-use native.Mathlib.Nat.{sub-zero}
-use lib.ListN.{length, drop}
-use borrow.Rule.Slice.PartMut.{mid_of, put_mid}
+use lib.ListN.{length, take, drop}
+use lib.Seq.{length-take-le}
+use Rattle.std.specs.Int.{next_multiple_of}
 use lib.Dec.{eqb, leb, ltb}
 use borrow.Author.Tests.{eq-eqb, ne_eqb, lt-ltb, le-ltb, le-leb, lt-leb, eqb-true, ltb-false}
 use Rattle.disc.specs.Choice.{pick}
+use Rattle.disc.specs.declared.refusals.Refusal.{Refusal}
 use Rattle.disc.specs.declared.refusals.Refusal.TheVariants.{NoRoom, BadName, BadFiles}
 use Rattle.disc.proofs.PickLaws.{not-both}
+use Rattle.disc.proofs.RefusalLaws.{refusal-numbered}
 use Rattle.disc.proofs.MoveLaws.{sets-whole}
 use Rattle.disc.specs.Images.{sectors_for}
 use Rattle.writers.specs.Layout.{zeros, blocks_of, total, joined, front, directory_part, entries_part, files_part, anchor_at, image}
 use Rattle.writers.specs.Refusing.{names_in, is_ended, are_good, good_names, are_short, sum, good_files, refused_by, total_of, Written, writes}
 use Rattle.writers.specs.Inner.Pours.{Poured, Kept, Named, Heads, Staged, Ready, Sized, Sums, head}
 use Rattle.writers.specs.declared.WriteReply.{WriteReply}
-use Rattle.writers.proofs.PourLaws.{poured-then, poured-as, poured-front, front_long}
+use Rattle.writers.proofs.PourLaws.{poured-then, poured-as, poured-front}
 use Rattle.writers.proofs.FileLaws.{blocks-few}
 
 -- ---- the files
@@ -67,18 +69,21 @@ names-good names e = by (is_ended names) refl e
 -- ---- the returns of `total`
 
 module _ (names lengths : List ℕ) {b : Bool} (e : b ≡ good_names names) where
-  pub total-bad : b ≡ false → {r : WriteReply} → r ≡ refused_by BadName → r ≡ total_of names lengths
+  pub total-bad : b ≡ false → refused_by BadName ≡ total_of names lengths
   unfolding total_of
-  total-bad h k = rw (← e, h) k
+  total-bad h = rw (← e, h)
 
   module _ (h : b ≡ true) {c : Bool} (f : c ≡ good_files names lengths) where
-    pub total-files : c ≡ false → {r : WriteReply} → r ≡ refused_by BadFiles → r ≡ total_of names lengths
+    pub total-files : c ≡ false → refused_by BadFiles ≡ total_of names lengths
     unfolding total_of
-    total-files g k = rw (← e, h, ← f, g) k
+    total-files g = rw (← e, h, ← f, g)
 
-    pub total-done : c ≡ true → {n : ℕ} → Sums sectors_for lengths n → record { answer = 0; sectors = (384 + n) / 32 * 32 } ≡ total_of names lengths
+    pub total-done : c ≡ true → {n t : ℕ} → Sums sectors_for lengths n → t ≡ next_multiple_of (353 + n) 32 → record { answer = 0; sectors = t } ≡ total_of names lengths
     unfolding total_of
-    total-done g k = rw (← e, h, ← f, g, k.is (files-good names lengths (sym f ∙ g)).short)
+    total-done g {n} {t} k u =
+        let blocks : n ≡ blocks_of lengths = k.is (files-good names lengths (sym f ∙ g)).short in
+        let is : t ≡ total lengths = omega (arith, u, blocks) in
+        rw (← e, h, ← f, g, is)
 
 module _ (names lengths : List ℕ) {c : Bool} (f : c ≡ good_files names lengths) (g : c ≡ true) where
   pub good-few : length lengths ≤ 64
@@ -86,84 +91,82 @@ module _ (names lengths : List ℕ) {c : Bool} (f : c ≡ good_files names lengt
 
 -- ---- the returns of `write`
 
-record Passed (names lengths : List ℕ) (r : WriteReply) : Type 0 where
+pub write-refused : (names lengths : List ℕ) (why : Refusal) → refused_by why ≡ total_of names lengths → (staging lent : List ℕ) → record { reply = refused_by why; image = lent } ≡ writes names lengths staging lent
+unfolding total_of writes
+write-refused names lengths why e staging lent = by (good_names names) (good_files names lengths) e
+  where
+    by : (a b : Bool) → refused_by why ≡ pick a (pick b (record { answer = 0; sectors = total lengths }) (refused_by BadFiles)) (refused_by BadName)
+        → ◌≡◌ {A = Written} (record { reply = refused_by why; image = lent }) (pick a (pick b (pick (leb (sum lengths) (length staging)) (pick (leb (total lengths) (length lent / 2048)) (record { reply = record { answer = 0; sectors = total lengths }; image = image (names_in names) lengths staging ++ drop (2048 * total lengths) lent }) (record { reply = refused_by NoRoom; image = lent })) (record { reply = refused_by BadFiles; image = lent })) (record { reply = refused_by BadFiles; image = lent })) (record { reply = refused_by BadName; image = lent }))
+    by true true q = absurd (refusal-numbered why (ap (λ (x : WriteReply). x.answer) q))
+    by true false q = ap (λ x. record { reply = x; image = lent }) q
+    by false b q = ap (λ x. record { reply = x; image = lent }) q
+
+record Passed (names lengths : List ℕ) (n : ℕ) : Type 0 where
   named : good_names names ≡ true
   filed : good_files names lengths ≡ true
-  is : r ≡ record { answer = 0; sectors = total lengths }
+  is : n ≡ total lengths
 
-module _ (names lengths : List ℕ) {r : WriteReply} (e : r ≡ total_of names lengths) where
-  pub write-refused : (r.answer ≡ 0 → ⊥) → (staging lent : List ℕ) → record { reply = r; image = lent } ≡ writes names lengths staging lent
-  unfolding total_of writes
-  write-refused h staging lent = by (good_names names) (good_files names lengths) e
+module _ (names lengths : List ℕ) {n : ℕ} (e : record { answer = 0; sectors = n } ≡ total_of names lengths) where
+  passed : Passed names lengths n
+  unfolding total_of
+  passed = by (good_names names) (good_files names lengths) refl refl e
     where
-      by : (a b : Bool) → r ≡ pick a (pick b (record { answer = 0; sectors = total lengths }) (refused_by BadFiles)) (refused_by BadName)
-          → ◌≡◌ {A = Written} (record { reply = r; image = lent }) (pick a (pick b (pick (leb (sum lengths) (length staging)) (pick (leb (total lengths) (length lent / 2048)) (record { reply = record { answer = 0; sectors = total lengths }; image = image (names_in names) lengths staging ++ drop (2048 * total lengths) lent }) (record { reply = refused_by NoRoom; image = lent })) (record { reply = refused_by BadFiles; image = lent })) (record { reply = refused_by BadFiles; image = lent })) (record { reply = refused_by BadName; image = lent }))
-      by true true q = absurd (h (ap (λ (x : WriteReply). x.answer) q))
-      by true false q = ap (λ x. record { reply = x; image = lent }) q
-      by false b q = ap (λ x. record { reply = x; image = lent }) q
+      by : (a b : Bool) → good_names names ≡ a → good_files names lengths ≡ b
+          → record { answer = 0; sectors = n } ≡ pick a (pick b (record { answer = 0; sectors = total lengths }) (refused_by BadFiles)) (refused_by BadName) → Passed names lengths n
+      by true true p q k = record { named = p; filed = q; is = ap (λ (x : WriteReply). x.sectors) k }
+      by true false p q k = absurd (let z : 0 ≡ 14 = ap (λ (x : WriteReply). x.answer) k in omega arith)
+      by false b p q k = absurd (let z : 0 ≡ 13 = ap (λ (x : WriteReply). x.answer) k in omega arith)
 
-  module _ (h : r.answer ≡ 0) where
-    passed : Passed names lengths r
-    unfolding total_of
-    passed = by (good_names names) (good_files names lengths) refl refl e
-      where
-        by : (a b : Bool) → good_names names ≡ a → good_files names lengths ≡ b
-            → r ≡ pick a (pick b (record { answer = 0; sectors = total lengths }) (refused_by BadFiles)) (refused_by BadName) → Passed names lengths r
-        by true true p q k = record { named = p; filed = q; is = k }
-        by true false p q k = absurd (let z : 14 ≡ 0 = sym (ap (λ (x : WriteReply). x.answer) k) ∙ h in omega arith)
-        by false b p q k = absurd (let z : 13 ≡ 0 = sym (ap (λ (x : WriteReply). x.answer) k) ∙ h in omega arith)
+  filed : Files names lengths
+  filed = files-good names lengths passed.filed
 
-    filed : Files names lengths
-    filed = files-good names lengths passed.filed
+  is : n ≡ total lengths
+  is = passed.is
 
-    pub write-few : length lengths ≤ 64
-    write-few = omega (arith, filed.few, filed.alike)
+  pub write-few : length lengths ≤ 64
+  write-few = omega (arith, filed.few, filed.alike)
 
-    is : r.sectors ≡ total lengths
-    is = ap (λ (x : WriteReply). x.sectors) passed.is
+  pub write-least : 384 ≤ n
+  write-least = omega (arith, is)
 
-    pub write-least : 384 ≤ r.sectors
-    write-least = omega (arith, is)
+  pub write-most : n ≤ 67108864
+  write-most = omega (arith, is, blocks-few lengths filed.short, write-few)
 
-    pub write-most : r.sectors ≤ 67108864
-    write-most = omega (arith, is, blocks-few lengths filed.short, write-few)
+  module _ {s : ℕ} (f : Sums (λ n. n) lengths s) (staging lent : List ℕ) where
+    summed-is : s ≡ sum lengths
+    summed-is = f.is filed.short
 
-    module _ {s : ℕ} (f : Sums (λ n. n) lengths s) (staging lent : List ℕ) where
-      summed-is : s ≡ sum lengths
-      summed-is = f.is filed.short
+    pub write-staging : length staging < s → record { reply = refused_by BadFiles; image = lent } ≡ writes names lengths staging lent
+    unfolding writes
+    write-staging k = rw (passed.named, passed.filed, lt-leb (sum lengths) (length staging) (omega (arith, summed-is)))
 
-      pub write-staging : length staging < s → {q : WriteReply} → q ≡ refused_by BadFiles → record { reply = q; image = lent } ≡ writes names lengths staging lent
+    module _ (k : s ≤ length staging) where
+      staged : leb (sum lengths) (length staging) ≡ true
+      staged = le-leb (sum lengths) (length staging) (omega (arith, summed-is))
+
+      pub write-room : length lent / 2048 < n → record { reply = refused_by NoRoom; image = lent } ≡ writes names lengths staging lent
       unfolding writes
-      write-staging k g = rw (passed.named, passed.filed, lt-leb (sum lengths) (length staging) (omega (arith, summed-is)), g)
+      write-room l = rw (passed.named, passed.filed, staged, lt-leb (total lengths) (length lent / 2048) (omega (arith, is)))
 
-      module _ (k : s ≤ length staging) where
-        staged : leb (sum lengths) (length staging) ≡ true
-        staged = le-leb (sum lengths) (length staging) (omega (arith, summed-is))
+      ready : Ready names lengths staging n
+      ready =
+          let w = names-good names passed.named in
+          record { heads = record { named = record { good = w.good; few = filed.few }; short = filed.short }; alike = filed.alike; staged = omega (arith, summed-is); is = is }
 
-        pub write-room : length lent / 2048 < r.sectors → {q : WriteReply} → q ≡ refused_by NoRoom → record { reply = q; image = lent } ≡ writes names lengths staging lent
+      module _ (l : n ≤ length lent / 2048) where
+        write-end : n * 2048 ≤ length lent
+        write-end = omega arith
+
+        pub write-lent : length (take (n * 2048) lent) ≡ 2048 * n
+        write-lent = length-take-le (n * 2048) lent write-end ∙ omega arith
+
+        pub write_done : {d : List ℕ} → (Ready names lengths staging n → d ≡ image (names_in names) lengths staging)
+            → record { reply = record { answer = 0; sectors = n }; image = d ++ drop (n * 2048) lent } ≡ writes names lengths staging lent
         unfolding writes
-        write-room l g = rw (passed.named, passed.filed, staged, lt-leb (total lengths) (length lent / 2048) (omega (arith, is)), g)
-
-        ready : Ready names lengths staging r.sectors
-        ready =
-            let w = names-good names passed.named in
-            record { heads = record { named = record { good = w.good; few = filed.few }; short = filed.short }; alike = filed.alike; staged = omega (arith, summed-is); is = is }
-
-        module _ (l : r.sectors ≤ length lent / 2048) where
-          write-end : r.sectors * 2048 ≤ length lent
-          write-end = omega arith
-
-          pub write-lent : length (mid_of 0 (r.sectors * 2048 - 0) lent) ≡ 2048 * r.sectors
-          write-lent = front_long (r.sectors * 2048) lent write-end ∙ omega arith
-
-          pub write_done : {d : List ℕ} → (Ready names lengths staging r.sectors → d ≡ image (names_in names) lengths staging)
-              → record { reply = r; image = put_mid 0 (r.sectors * 2048 - 0) lent d } ≡ writes names lengths staging lent
-          unfolding writes
-          write_done {d} g =
-              let e : r.sectors * 2048 ≡ 2048 * total lengths = omega (arith, is) in
-              let u : put_mid 0 (r.sectors * 2048 - 0) lent d ≡ image (names_in names) lengths staging ++ drop (2048 * total lengths) lent = rw (g ready, sub-zero, e) in
-              rw (passed.named, passed.filed, staged, le-leb (total lengths) (length lent / 2048) (omega (arith, is)), u)
-              (ap (λ x. record { reply = x; image = image (names_in names) lengths staging ++ drop (2048 * total lengths) lent }) passed.is)
+        write_done {d} g =
+            let e : n * 2048 ≡ 2048 * total lengths = omega (arith, is) in
+            let u : d ++ drop (n * 2048) lent ≡ image (names_in names) lengths staging ++ drop (2048 * total lengths) lent = rw (g ready, e) in
+            rw (passed.named, passed.filed, staged, le-leb (total lengths) (length lent / 2048) (omega (arith, is)), u, is)
 
 -- ---- the image
 
@@ -183,19 +186,19 @@ module _ (names lengths staging : List ℕ) (sectors : ℕ) (d : List ℕ) (h : 
 
   module _ {m : ℕ} {e : List ℕ} (p : Kept (Heads names lengths) (head (names_in names) lengths (sectors - 273)) 720896 0 720896 d e m) where
     abbrev files : List ℕ
-    files = mid_of 0 (length d - 2048 - 0) e
+    files = take (length d - 2048) e
 
     pour-front : length d - 2048 ≤ length e
     pour-front = omega (arith, p.same)
 
     files-room : length files ≡ length d - 2048
-    files-room = front_long (length d - 2048) e pour-front
+    files-room = length-take-le (length d - 2048) e pour-front
 
     module _ {k : ℕ} {y : List ℕ} (q : Kept (Staged lengths staging m files) (files_part lengths staging) (2048 * blocks_of lengths) m (length files) files y k) where
       pour-left : k ≤ length d - 2048
       pour-left = omega (arith, q.within, files-room)
 
-      pub pour-done : {r : ℕ} {g : List ℕ} → Poured (zeros (length d - 2048 - k) ++ anchor_at (sectors - 1)) (length d - 2048 - k + 2048) k (put_mid 0 (length d - 2048 - 0) e y) g r
+      pub pour-done : {r : ℕ} {g : List ℕ} → Poured (zeros (length d - 2048 - k) ++ anchor_at (sectors - 1)) (length d - 2048 - k + 2048) k (y ++ drop (length d - 2048) e) g r
           → Ready names lengths staging sectors → g ≡ image (names_in names) lengths staging
       unfolding image
       pour-done t z =

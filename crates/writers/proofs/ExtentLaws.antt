@@ -1,4 +1,5 @@
 -- The extents of the image's files, as the reader lists them: one of each file that has bytes, inside the partition, and none over another. Assumes nothing.
+use Rattle.std.specs.Prelude.{None}
 use mathlib.Core.Path.{◌≡◌, refl, ◌∙◌}
 use mathlib.Core.Bool.{Bool, true, false}
 use mathlib.Core.List.{List, [], ◌∷◌, ◌++◌}
@@ -14,7 +15,6 @@ use Rattle.disc.specs.Ask.Ask.{done}
 use Rattle.disc.specs.Ask.Outcome.{answered}
 use Rattle.disc.specs.Ran.{ran}
 use Rattle.disc.specs.Images.{disc, sectors_for}
-use Rattle.disc.specs.declared.places.PartitionRef.TheVariants.{Unnamed}
 use Rattle.disc.proofs.RanLaws.{ran-done, ran_then}
 use Rattle.areas.specs.Areas.{extent, area_at}
 use Rattle.areas.specs.declared.AllocExtent.{AllocExtent}
@@ -69,7 +69,7 @@ module _ (names : List (List ℕ)) (lengths staging more : List ℕ) (h : Accept
       rw l at (extents-are (take i lengths) (get_or lengths i 0) (drop (suc i) lengths) (split_at lengths i 0 k))
 
   -- the root's: its bytes stand in blocks 8 to 15
-  pub vault-root-extents : ran (disc (written names lengths staging more)) (file_extents (vault_for how).mount (vault_for how).root) ≡ record { outcome = answered (extent (directory_size names) 0 8 Unnamed ∷ []); count = 1 }
+  pub vault-root-extents : ran (disc (written names lengths staging more)) (file_extents (vault_for how).mount (vault_for how).root) ≡ record { outcome = answered (extent (directory_size names) 0 8 None ∷ []); count = 1 }
   vault-root-extents =
       let there : disc (written names lengths staging more) 274 ≡ holds (sector (root_entry (directory_size names))) = rw (disk-front names lengths staging more h) (root-there (partition_for (total lengths)) (length names) (directory_size names) (behind_front names lengths staging more h)) in
       let area = area-one 2 4 0x14a5 (directory_size names) 0 8 (omega (arith, small names lengths staging more h)) (lit< tt) (λ z. omega arith) in

@@ -1,8 +1,8 @@
 -- What the vault's directory lists, and the entry of a name under every choice of matching. Assumes nothing.
+use Rattle.std.specs.Prelude.{Some}
 use mathlib.Core.Path.{◌≡◌, refl, ap, sym, ◌∙◌}
 use mathlib.Core.Bool.{Bool, true, false}
 use mathlib.Core.List.{List, [], ◌∷◌, ◌++◌}
-use mathlib.Core.Option.{some}
 use Prim.Native.Nat.{ℕ, suc, ◌+◌, ◌≤◌}
 use native.Mathlib.Omega.{arith}
 use lib.ListN.{length}
@@ -130,7 +130,7 @@ module _ (check : Bool) (m : Matching) (n : List ℕ) (before after : List (List
   abbrev its_entry : Entry
   its_entry = entry_for (place_behind 40 before) 0 (16 + (0 + length before)) (8 ∷ n) (length n)
 
-  pub name-found : find_in check m n (directory (before ++ n ∷ after)) ≡ answered (some its_entry)
+  pub name-found : find_in check m n (directory (before ++ n ∷ after)) ≡ answered (Some its_entry)
   unfolding find_in NoneAnswers answers_to is_skipped
   name-found =
       let q = good-at n before after g in
@@ -173,7 +173,7 @@ module _ (d : Disc) (v : Mount) (root : LongAd) (work c : ℕ) (names : List (Li
 module _ (d : Disc) (v : Mount) (root : LongAd) (work c : ℕ) (m : Matching) (n : List ℕ) (before after : List (List ℕ))
     (r : ran d (file_bytes v root) ≡ record { outcome = answered (directory (before ++ n ∷ after)); count = c }) (room : directory_size (before ++ n ∷ after) ≤ work)
     (g : are_good (before ++ n ∷ after) ≡ true) (h : length (before ++ n ∷ after) ≤ 64) (k : names_size (before ++ n ∷ after) ≤ 10752) where
-  enters : ran d (entering m v work root n) ≡ record { outcome = answered (some (its_entry (is_checked v) m n before after g h k)); count = c + 0 + 0 }
+  enters : ran d (entering m v work root n) ≡ record { outcome = answered (Some (its_entry (is_checked v) m n before after g h k)); count = c + 0 + 0 }
   unfolding entering
   enters =
       ran_then d (directory_bytes v work root) (λ b. ended (find_in (is_checked v) m n b))

@@ -1,4 +1,5 @@
 -- Opening the image, under every choice: what each descriptor of the front is read as, and what the call comes to. Assumes nothing.
+use Rattle.std.specs.Prelude.{Ok}
 use mathlib.Core.Path.{◌≡◌, refl, ap, ◌∙◌}
 use mathlib.Core.Bool.{Bool, true, false}
 use mathlib.Core.List.{List, [], ◌∷◌, ◌++◌}
@@ -15,11 +16,9 @@ use Rattle.disc.specs.Images.{disc}
 use Rattle.disc.specs.Places.{placed, start_for, mapped_start}
 use Rattle.disc.proofs.RanLaws.{ran-done, ran-there, ran_then}
 use Rattle.tags.specs.Tags.{read_head, gated}
-use Rattle.tags.specs.declared.TagRead.TheVariants.{Read as ATag}
 use Rattle.names.specs.Names.{name_of, name_of_field, until_zero, utf8, encode}
 use Rattle.descriptors.specs.Volumes.{anchor_after, read_anchor, primary_of, primary_behind, read_primary, partition_of, partition_after, read_partition, logical_of, logical_behind, read_logical}
 use Rattle.descriptors.specs.FileSets.{file_set_of, read_file_set}
-use Rattle.descriptors.specs.declared.anchors.AnchorRead.TheVariants.{Read as AnAnchor}
 use Rattle.volumes.specs.Sequences.{nothing, Parsed, latest, any_partition, kept_of, primary_in, partition_in, logical_in, says_in, scan}
 use Rattle.volumes.specs.Sequences.Parsed.{primary, partition, logical}
 use Rattle.volumes.specs.Sequences.Says.{found, passed, over}
@@ -139,15 +138,15 @@ front-count size files directory = refl
 
 -- ---- each descriptor as it is read
 
-anchor-head : (check : Bool) → read_head check (anchor_at 256) 2 32 ≡ ATag (tag_for 2 256 anchor_body)
+anchor-head : (check : Bool) → read_head check (anchor_at 256) 2 32 ≡ Ok (tag_for 2 256 anchor_body)
 unfolding anchor_at anchor_body
 anchor-head check = sector-head anchor_body (anchor-seal 256 (lit< tt)) check 32 (lit≤ tt)
 
-pub anchor-read : (check : Bool) → read_anchor check (anchor_at 256) ≡ AnAnchor (record { tag = tag_for 2 256 anchor_body; main_volume_descriptor_sequence = record { length = 32768; location = 32 }; reserve_volume_descriptor_sequence = record { length = 32768; location = 48 } })
+pub anchor-read : (check : Bool) → read_anchor check (anchor_at 256) ≡ Ok (record { tag = tag_for 2 256 anchor_body; main_volume_descriptor_sequence = record { length = 32768; location = 32 }; reserve_volume_descriptor_sequence = record { length = 32768; location = 48 } })
 unfolding read_anchor anchor_at sector sealed anchor_body
 anchor-read check = ap (anchor_after (anchor_at 256)) (anchor-head check)
 
-primary-head : (check : Bool) → read_head check primary_sector 1 56 ≡ ATag (tag_for 1 32 primary_body)
+primary-head : (check : Bool) → read_head check primary_sector 1 56 ≡ Ok (tag_for 1 32 primary_body)
 unfolding primary_body
 primary-head check = sector-head primary_body (primary-seal 32 (lit< tt)) check 56 (lit≤ tt)
 
@@ -166,7 +165,7 @@ info-says : (check : Bool) → says_in check (sector (sealed 4 33 info_body)) �
 unfolding says_in sector sealed
 info-says check = refl
 
-pub partition-head : (check : Bool) (size : ℕ) → read_head check (partition_sector size) 5 196 ≡ ATag (tag_for 5 34 (partition_body size))
+pub partition-head : (check : Bool) (size : ℕ) → read_head check (partition_sector size) 5 196 ≡ Ok (tag_for 5 34 (partition_body size))
 unfolding partition_body
 partition-head check size = sector-head (partition_body size) (partition-seal 34 size (lit< tt)) check 196 (lit≤ tt)
 
@@ -177,7 +176,7 @@ partition-says : (check : Bool) (size : ℕ) → says_in check (partition_sector
 unfolding says_in read_partition sector sealed
 partition-says check size = ap (λ t. partition_in (partition_after (partition_sector size) t)) (partition-head check size)
 
-logical-head : (check : Bool) → read_head check logical_sector 6 440 ≡ ATag (tag_for 6 35 logical_body)
+logical-head : (check : Bool) → read_head check logical_sector 6 440 ≡ Ok (tag_for 6 35 logical_body)
 unfolding logical_body
 logical-head check = sector-head logical_body (logical-seal 35 (lit< tt)) check 440 (lit≤ tt)
 
@@ -200,7 +199,7 @@ terminating-says : (check : Bool) → says_in check (sector (sealed 8 37 termina
 unfolding says_in sector sealed
 terminating-says check = refl
 
-file-set-head : (check : Bool) → read_head check file_set_sector 256 416 ≡ ATag (tag_for 256 0 file_set_body)
+file-set-head : (check : Bool) → read_head check file_set_sector 256 416 ≡ Ok (tag_for 256 0 file_set_body)
 unfolding file_set_body
 file-set-head check = sector-head file_set_body file-set-seal check 416 (lit≤ tt)
 

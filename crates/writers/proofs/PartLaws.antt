@@ -2,24 +2,34 @@
 use mathlib.Core.Path.{◌≡◌, refl, ap, sym, ◌∙◌}
 use mathlib.Core.Bool.{Bool, true, false}
 use mathlib.Core.List.{List, [], ◌∷◌, ◌++◌, append-nil}
-use Prim.Native.Nat.{ℕ, suc, ◌+◌, ◌-◌, ◌*◌, ◌/◌, ◌<◌, ◌≤◌, min}
+use Prim.Native.Nat.{ℕ, zero, suc, ◌+◌, ◌-◌, ◌*◌, ◌/◌, ◌<◌, ◌≤◌, min}
 use native.Mathlib.Numerals.{add-one}
 use native.Mathlib.Omega.{arith}
-use lib.ListN.{length, get_or, take, drop, length-append, length-drop, length-replicate, drop_of_length-le}
-use lib.Seq.{drop-cons, sets, length-take-le}
+use lib.ListN.{length, get_or, take, drop, length-append, length-replicate, drop_of_length-le}
+use lib.Seq.{drop-cons, sets, length-take-le, take-length}
 use lib.Dec.{eqb, ltb}
 use borrow.Author.Tests.{eqb-false, ltb-false}
 use Rattle.disc.specs.Choice.{pick}
 use Rattle.disc.specs.Images.{sectors_for}
 use Rattle.disc.proofs.PickLaws.{not-both}
 use Rattle.disc.proofs.MoveLaws.{sets-append}
-use Rattle.names.specs.Names.{until_zero}
 use Rattle.writers.specs.Layout.{summed, zeros, identifier_size, names_size, directory_size, joined, blanks, sector, sealed, entry_body, identifier_body, file_entry, identifier_at, entries, entries_part, identifiers, directory, directory_part, recognition, recognition_part, sequence, integrity_part, root_part, front, root_entry, anchor_at, primary_body, info_body, partition_body, logical_body, unallocated_body, terminating_body, integrity_body, file_set_body}
 use Rattle.writers.specs.Refusing.{longest, names_in, is_good, is_among, are_good, are_short, all_plain}
-use Rattle.writers.specs.Inner.Pours.{Poured, Laid, Kept, NameEnd, NameStop, Named, Sized}
+use Rattle.writers.specs.Inner.Pours.{Poured, Laid, Kept, Named, Sized}
 use Rattle.writers.proofs.PourLaws.{poured-then, poured-as, sealed-long, joined-append, laid-append, laid_cons}
 use Rattle.writers.proofs.BodyLaws.{identifier-long}
-use Rattle.writers.proofs.NameLaws.{name-short, names_at, names-none, name-part}
+use Rattle.std.specs.Int.{div_ceil}
+use Rattle.std.specs.Iterator.{YieldsFirstBy}
+use Rattle.std.specs.Iterator.Adapters.{take_source, take_count, take_steps}
+use Rattle.std.specs.declared.iter.Take.{Take}
+use Rattle.std.proofs.Common.{Bor}
+use Rattle.std.proofs.lemmas.Iterator.{YieldsList, YieldsList-from_take}
+use Rattle.std.proofs.lemmas.Iterator.Consumers.{YieldsList-from_first}
+use Rattle.writers.specs.declared.namings.Names.{Names}
+use Rattle.std.specs.List.{sum_by, enumerate_from}
+use Rattle.std.proofs.lemmas.List.{length-take, take_all}
+use Rattle.std.proofs.lemmas.List.FromFn.{length-enumerate_from, get_or-enumerate_from}
+use Rattle.std.proofs.lemmas.List.Sums.{sum_by-cons, sum_by-drop_more}
 use Rattle.writers.proofs.FileLaws.{held-is}
 
 -- ---- entries
@@ -55,31 +65,29 @@ pub record Entering (lengths image₀ : List ℕ) (at : ℕ) (image : List ℕ) 
   pub same : length image ≡ length image₀
   pub rest : are_short lengths ≡ true → sets image place (joined (entries i block (drop i lengths))) ≡ sets image₀ at (joined (entries 0 80 lengths))
 
-pub enter-starts : (lengths image : List ℕ) (at : ℕ) → (length lengths ≤ 64) × (at + 2048 * length lengths ≤ length image) → Entering lengths image at image at 80 0
-enter-starts lengths image at h = record { room = omega arith; fits = h.1; within = omega arith; few = h.0; low = omega arith; same = refl; rest = λ s. refl }
-
 module _ {lengths image₀ : List ℕ} {at : ℕ} {image : List ℕ} {place block i : ℕ} (p : Entering lengths image₀ at image place block i) where
   module _ {n : ℕ} (m : n ≡ min (get_or lengths i 0) longest) where
-    pub enter-next : i < length lengths → {f : List ℕ} {r : ℕ} → Laid (sector (file_entry i n block) ∷ []) place image f r → Entering lengths image₀ at f r (block + (n + 2047) / 2048) (i + 1)
+    pub enter-next : i < length lengths → {f : List ℕ} {r : ℕ} → Laid (sector (file_entry i n block) ∷ []) place image f r → {q : ℕ} → q ≡ div_ceil n 2048 → Entering lengths image₀ at f r (block + q) (i + 1)
     unfolding entries joined
-    enter-next h {f} {r} l = record {
+    enter-next h {f} {r} l {q} u = record {
       room = omega (arith, p.room, l.poured.place);
       fits = p.fits;
       within = omega arith;
       few = p.few;
-      low = omega (arith, p.low);
+      low = omega (arith, p.low, u);
       same = l.poured.same ∙ p.same;
       rest = λ s. sym (next s) ∙ p.rest s;
     }
       where
-        next : are_short lengths ≡ true → sets image place (joined (entries i block (drop i lengths))) ≡ sets f r (joined (entries (i + 1) (block + sectors_for n) (drop (i + 1) lengths)))
+        next : are_short lengths ≡ true → sets image place (joined (entries i block (drop i lengths))) ≡ sets f r (joined (entries (i + 1) (block + q) (drop (i + 1) lengths)))
         next s =
-            let q = l.poured in
+            let y = l.poured in
+            let few : q ≡ sectors_for n = omega (arith, u) in
             let x : List ℕ = sector (file_entry i n block) in
-            let others : List ℕ = joined (entries (i + 1) (block + sectors_for n) (drop (i + 1) lengths)) in
+            let others : List ℕ = joined (entries (i + 1) (block + q) (drop (i + 1) lengths)) in
             let dc : drop i lengths ≡ n ∷ drop (i + 1) lengths = rw (add-one i, held-is lengths i m s) (drop-cons lengths i 0 h) in
-            let t : joined (entries i block (drop i lengths)) ≡ (x ++ []) ++ others = rw dc (ap (λ l. l ++ others) (sym (append-nil x))) in
-            rw t (sets-append (x ++ []) others image place ∙ rw (q.bytes, q.place, q.long))
+            let t : joined (entries i block (drop i lengths)) ≡ (x ++ []) ++ others = rw (dc, few) (ap (λ l. l ++ joined (entries (i + 1) (block + sectors_for n) (drop (i + 1) lengths))) (sym (append-nil x))) in
+            rw t (sets-append (x ++ []) others image place ∙ rw (y.bytes, y.place, y.long))
 
   pub enter-ends : length lengths ≤ i → Kept (are_short lengths ≡ true) (joined (entries 0 80 lengths)) (2048 * length lengths) at (at + 2048 * length lengths) image₀ image place
   unfolding entries joined
@@ -116,77 +124,51 @@ unfolding summed
 sizes-few [] e = omega arith
 sizes-few (n ∷ ns) e = let g = good-cons n ns e in let k : identifier_size (length n) ≤ 168 = omega (arith, g.small) in omega (arith, sizes-few ns g.others)
 
--- ---- the names that are left of good ones, where i are done
+-- ---- the directory's size, whatever the names are: the first 64 of them, cut to 127 bytes
 
-pub record Left (names : List ℕ) (i from : ℕ) : Type 0 where
-  pub good : are_good (names_in (drop from names)) ≡ true
-  pub few : i + length (names_in (drop from names)) ≤ 64
+abbrev pub cut_size : List ℕ → ℕ
+cut_size n = identifier_size (min (length n) 127)
 
-left-starts : (names : List ℕ) → Named names → Left names 0 0
-left-starts names g = record { good = g.good; few = omega (arith, g.few) }
-
-module _ {names : List ℕ} {i from : ℕ} (p : Left names i from) where
-  left-none : 64 ≤ i → names_in (drop from names) ≡ []
-  left-none h = none (names_in (drop from names)) (omega (arith, p.few))
-    where
-      none : (ns : List (List ℕ)) → length ns ≤ 0 → ns ≡ []
-      none [] k = refl
-      none (n ∷ ns) k = absurd (omega arith)
-
-  module _ (h : from < length names) {end : ℕ} (e : NameStop names from end) where
-    true-end : NameEnd names from (from + length (until_zero (drop from names)))
-    true-end = record { is = refl; within = let k = rw length-drop at (name-short (drop from names)) in omega arith }
-
-    left_end : NameEnd names from end
-    left_end = e.is (good-cons _ _ (rw (names_at names from true-end h) at p.good)).small
-
-    left-first : names_in (drop from names) ≡ until_zero (drop from names) ∷ names_in (drop (end + 1) names)
-    left-first = names_at names from left_end h
-
-    left-size : names_size (names_in (drop from names)) ≡ identifier_size (length (until_zero (drop from names))) + names_size (names_in (drop (end + 1) names))
-    unfolding summed
-    left-size = rw left-first
-
-    left-next : Left names (i + 1) (end + 1)
-    left-next =
-        let k : length (names_in (drop from names)) ≡ suc (length (names_in (drop (end + 1) names))) = ap length left-first in
-        record { good = (good-cons _ _ (rw left-first at p.good)).others; few = omega (arith, p.few) }
-
-none-size : {names : List (List ℕ)} → names ≡ [] → names_size names ≡ 0
+cut-is : (names : List (List ℕ)) → are_good names ≡ true → sum_by cut_size names ≡ names_size names
 unfolding summed
-none-size e = rw e
+cut-is [] e = refl
+cut-is (n ∷ ns) e =
+    let g = good-cons n ns e in
+    let k : min (length n) 127 ≡ length n = omega (arith, g.small) in
+    rw (sum_by-cons cut_size n ns, k, cut-is ns g.others)
 
--- ---- the directory's size
+-- the names that are looked at
+abbrev pub first_names : List ℕ → List (List ℕ)
+first_names names = take 64 (names_in names)
 
-pub record Sizes (names : List ℕ) (size i from : ℕ) : Type 0 where
-  pub left : Left names i from
-  pub rest : size + names_size (names_in (drop from names)) ≡ directory_size (names_in names)
+first-few : (names : List ℕ) → length (first_names names) ≤ 64
+first-few names = rw length-take (omega arith)
 
-pub record Sizing (names : List ℕ) (size from i : ℕ) : Type 0 where
+-- what `Names(names).take(64)` gives
+pub few-names : (names : List ℕ) {s : Take Names} → (take_source s).0.now ≡ names → take_count s ≡ 64
+    → YieldsList (take_steps (YieldsFirstBy (λ (x : Bor (List ℕ)). x.now) (λ (t : Names). names_in t.0.now))) (λ x. x.now) s (first_names names)
+few-names names e n = YieldsList-from_take 64 (YieldsList-from_first (λ x. x.now) (λ t. names_in t.0.now) (names_in names) (ap names_in e)) n
+
+-- the loop has come to the i-th of them
+pub record Sizing (names : List ℕ) (size i : ℕ) : Type 0 where
   pub small : size ≤ 40 + i * 168
-  pub few : i ≤ 64
-  pub sized : Named names → Sizes names size i from
+  pub rest : size + sum_by cut_size (drop i (first_names names)) ≡ 40 + sum_by cut_size (first_names names)
 
-pub size-starts : (names : List ℕ) → Sizing names 40 0 0
-size-starts names = record { small = omega arith; few = omega arith; sized = λ g. record { left = left-starts names g; rest = refl } }
+module _ {names : List ℕ} {size i : ℕ} (p : Sizing names size i) where
+  pub size-next : {name : List ℕ} → i < length (first_names names) → name ≡ get_or (first_names names) i name → Sizing names (size + cut_size name) (i + 1)
+  size-next {name} h e =
+      let k = sum_by-drop_more cut_size (first_names names) i name h in
+      let l : cut_size (get_or (first_names names) i name) ≡ cut_size name = ap cut_size (sym e) in
+      record { small = omega (arith, p.small); rest = omega (arith, p.rest, k, l) }
 
-module _ {names : List ℕ} {size from i : ℕ} (p : Sizing names size from i) where
-  pub size-next : i < 64 → from < length names → {end : ℕ} → NameStop names from end → Sizing names (size + (end - from + 42) / 4 * 4) (end + 1) (i + 1)
-  size-next k h {end} e = record { small = omega (arith, p.small, e.small); few = omega arith; sized = λ g. next (p.sized g) }
-    where
-      next : Sizes names size i from → Sizes names (size + (end - from + 42) / 4 * 4) (i + 1) (end + 1)
-      next w =
-          let l : end - from ≡ length (until_zero (drop from names)) = omega (arith, (left_end w.left h e).is) in
-          record { left = left-next w.left h e; rest = omega (arith, w.rest, left-size w.left h e) }
-
-  size-done : (Left names i from → names_in (drop from names) ≡ []) → Sized names size
-  size-done z = record { small = omega (arith, p.small, p.few); is = λ g. let w = p.sized g in omega (arith, w.rest, none-size (z w.left)) }
-
-  pub size-stops : length names ≤ from → Sized names size
-  size-stops h = size-done (λ l. names-none names from h)
-
-  pub size-ends : 64 ≤ i → Sized names size
-  size-ends h = size-done (λ l. left-none l h)
+  pub size-ends : i ≡ length (first_names names) → Sized names size
+  size-ends h =
+      let k : length (first_names names) ≤ i = omega arith in
+      let none : sum_by cut_size (drop i (first_names names)) ≡ 0 = rw (drop_of_length-le (first_names names) k) in
+      record {
+        small = omega (arith, p.small, first-few names);
+        is = λ g. let all : sum_by cut_size (first_names names) ≡ names_size (names_in names) = rw (take_all 64 (names_in names) g.few) (cut-is (names_in names) g.good) in omega (arith, p.rest, none, all);
+      }
 
 -- ---- identifiers
 
@@ -199,71 +181,71 @@ identifiers-long i o [] = refl
 identifiers-long i o (n ∷ ns) = rw (length-append, identifier-size o i n, identifiers-long (i + 1) (o + identifier_size (length n)) ns)
 
 -- the loop has come to the i-th name: its place is bounded whatever the names are; where they are good, what is left to pour is what the names left are
-pub record Placed (names image₀ : List ℕ) (at : ℕ) (image : List ℕ) (place i from : ℕ) : Type 0 where
-  pub left : Left names i from
-  pub rest : sets image place (identifiers i (place - at + 40) (names_in (drop from names))) ≡ sets image₀ at (identifiers 0 40 (names_in names))
-  pub room : place + names_size (names_in (drop from names)) ≡ at + names_size (names_in names)
+pub record Placed (names : List (List ℕ)) (image₀ : List ℕ) (at : ℕ) (image : List ℕ) (place i : ℕ) : Type 0 where
+  pub rest : sets image place (identifiers i (place - at + 40) (drop i names)) ≡ sets image₀ at (identifiers 0 40 names)
+  pub room : place + names_size (drop i names) ≡ at + names_size names
 
-pub record Naming (names image₀ : List ℕ) (at : ℕ) (image : List ℕ) (place i from : ℕ) : Type 0 where
+pub record Naming (names image₀ : List ℕ) (at : ℕ) (image : List ℕ) (place i : ℕ) : Type 0 where
   pub above : at ≤ place
   pub low : place ≤ at + i * 168
-  pub few : i ≤ 64
   pub fits : at + 10752 ≤ length image₀
   pub same : length image ≡ length image₀
-  pub placed : Named names → Placed names image₀ at image place i from
+  pub placed : Named names → Placed (first_names names) image₀ at image place i
 
-pub name-starts : (names image : List ℕ) (at : ℕ) → at + 10752 ≤ length image → Naming names image at image at 0 0
-name-starts names image at h =
-    let z : at - at + 40 ≡ 40 = omega arith in
-    record { above = omega arith; low = omega arith; few = omega arith; fits = h; same = refl; placed = λ g. record { left = left-starts names g; rest = rw z; room = refl } }
+-- one of them, with its number
+pub numbered : (names : List (List ℕ)) (k i : ℕ) (name : List ℕ) → k < length (enumerate_from 0 names) → (i, name) ≡ get_or (enumerate_from 0 names) k (i, name) → (k < length names) × (i ≡ k) × (name ≡ get_or names k name)
+numbered names k i name h e =
+    let l : k < length names = rw length-enumerate_from at h in
+    let q : (i, name) ≡ (0 + k, get_or names k name) = e ∙ get_or-enumerate_from 0 names k (i, name) l in
+    (l, ap (λ (p : ℕ × List ℕ). p.0) q ∙ omega arith, ap (λ (p : ℕ × List ℕ). p.1) q)
 
-module _ {names image₀ : List ℕ} {at : ℕ} {image : List ℕ} {place i from : ℕ} (p : Naming names image₀ at image place i from) where
-  module _ (k : i < 64) (h : from < length names) {end : ℕ} (e : NameStop names from end) where
-    abbrev part : List ℕ
-    part = take (end - from) (drop from names)
+good-at : (names : List (List ℕ)) (i : ℕ) (d : List ℕ) → i < length names → are_good names ≡ true → length (get_or names i d) ≤ 127
+good-at [] i d h e = absurd (omega arith)
+good-at (n ∷ ns) zero d h e = (good-cons n ns e).small
+good-at (n ∷ ns) (suc i) d h e = good-at ns i d (omega arith) (good-cons n ns e).others
 
-    part-long : length part ≡ end - from
-    part-long = length-take-le (end - from) (drop from names) (rw length-drop (omega (arith, e.within)))
+module _ {names image₀ : List ℕ} {at : ℕ} {image : List ℕ} {place i : ℕ} (p : Naming names image₀ at image place i) where
+  module _ {name : List ℕ} (h : i < length (first_names names)) (e : name ≡ get_or (first_names names) i name) {part : List ℕ} (c : part ≡ take (min (length name) 127) name) where
+    pub part-long : length part ≡ min (length name) 127
+    part-long = rw c (length-take-le (min (length name) 127) name (omega arith))
 
-    name-small : length part ≤ 127
-    name-small = rw part-long (omega (arith, e.small))
-
-    pub name-next : {f : List ℕ} {r : ℕ} → Poured (identifier_at (place - at + 40) 0 (16 + i) (8 ∷ part)) (identifier_size (length part)) place image f r → Naming names image₀ at f r (i + 1) (end + 1)
-    unfolding identifiers
+    pub name-next : {f : List ℕ} {r : ℕ} → Poured (identifier_at (place - at + 40) 0 (16 + i) (8 ∷ part)) (identifier_size (length part)) place image f r → Naming names image₀ at f r (i + 1)
+    unfolding identifiers summed
     name-next {f} {r} q₀ = record {
       above = omega (arith, p.above, q₀.place);
-      low = omega (arith, p.low, q₀.place, name-small);
-      few = omega arith;
+      low = omega (arith, p.low, q₀.place, part-long);
       fits = p.fits;
       same = q₀.same ∙ p.same;
-      placed = λ g. next (p.placed g);
+      placed = λ g. next g (p.placed g);
     }
       where
-        next : Placed names image₀ at image place i from → Placed names image₀ at f r (i + 1) (end + 1)
-        next w =
-            let n : List ℕ = until_zero (drop from names) in
-            let q : Poured (identifier_at (place - at + 40) 0 (16 + i) (8 ∷ n)) (identifier_size (length n)) place image f r = rw (name-part names from (left_end w.left h e)) at q₀ in
-            let o : place - at + 40 + identifier_size (length n) ≡ r - at + 40 = omega (arith, q.place, p.above) in
-            let others : List ℕ = identifiers (i + 1) (r - at + 40) (names_in (drop (end + 1) names)) in
-            let s : identifiers i (place - at + 40) (names_in (drop from names)) ≡ identifier_at (place - at + 40) 0 (16 + i) (8 ∷ n) ++ others = rw (left-first w.left h e, o) in
-            let t : sets image place (identifiers i (place - at + 40) (names_in (drop from names))) ≡ sets f r others =
-            rw s (sets-append (identifier_at (place - at + 40) 0 (16 + i) (8 ∷ n)) others image place ∙ rw (q.long, ← q.place, ← q.bytes)) in
-            record { left = left-next w.left h e; rest = sym t ∙ w.rest; room = omega (arith, w.room, q.place, left-size w.left h e) }
+        next : Named names → Placed (first_names names) image₀ at image place i → Placed (first_names names) image₀ at f r (i + 1)
+        next g w =
+            let few : List (List ℕ) = first_names names in
+            let good : are_good few ≡ true = rw (take_all 64 (names_in names) g.few) g.good in
+            let small : length name ≤ 127 = let k = rw (← e) at (good-at few i name h good) in k in
+            let cut : min (length name) 127 ≡ length name = omega arith in
+            let whole : part ≡ name = c ∙ rw (cut, take-length) in
+            let q : Poured (identifier_at (place - at + 40) 0 (16 + i) (8 ∷ name)) (identifier_size (length name)) place image f r = rw whole at q₀ in
+            let o : place - at + 40 + identifier_size (length name) ≡ r - at + 40 = omega (arith, q.place, p.above) in
+            let left : drop i few ≡ name ∷ drop (i + 1) few = rw add-one (drop-cons few i name h ∙ ap (λ l. l ∷ drop (suc i) few) (sym e)) in
+            let others : List ℕ = identifiers (i + 1) (r - at + 40) (drop (i + 1) few) in
+            let s : identifiers i (place - at + 40) (drop i few) ≡ identifier_at (place - at + 40) 0 (16 + i) (8 ∷ name) ++ others = rw (left, o) in
+            let t : sets image place (identifiers i (place - at + 40) (drop i few)) ≡ sets f r others =
+            rw s (sets-append (identifier_at (place - at + 40) 0 (16 + i) (8 ∷ name)) others image place ∙ rw (q.long, ← q.place, ← q.bytes)) in
+            let size : names_size (drop i few) ≡ identifier_size (length name) + names_size (drop (i + 1) few) = rw left in
+            record { rest = sym t ∙ w.rest; room = omega (arith, w.room, q.place, size) }
 
-  name_done : (Left names i from → names_in (drop from names) ≡ []) → Kept (Named names) (identifiers 0 40 (names_in names)) (names_size (names_in names)) at (at + 10752) image₀ image place
-  unfolding identifiers
-  name_done z = record { above = p.above; within = omega (arith, p.low, p.few); same = p.same; poured = λ g. done (p.placed g) }
+  pub name-ends : i ≡ length (first_names names) → Kept (Named names) (identifiers 0 40 (names_in names)) (names_size (names_in names)) at (at + 10752) image₀ image place
+  unfolding identifiers summed
+  name-ends h = record { above = p.above; within = omega (arith, p.low, first-few names); same = p.same; poured = λ g. done g (p.placed g) }
     where
-      done : Placed names image₀ at image place i from → Poured (identifiers 0 40 (names_in names)) (names_size (names_in names)) at image₀ image place
-      done w =
-          let y = z w.left in
-          record { bytes = rw y at w.rest; long = identifiers-long 0 40 (names_in names); place = omega (arith, w.room, none-size y); same = p.same }
-
-  pub name-stops : length names ≤ from → Kept (Named names) (identifiers 0 40 (names_in names)) (names_size (names_in names)) at (at + 10752) image₀ image place
-  name-stops h = name_done (λ l. names-none names from h)
-
-  pub name-ends : 64 ≤ i → Kept (Named names) (identifiers 0 40 (names_in names)) (names_size (names_in names)) at (at + 10752) image₀ image place
-  name-ends h = name_done (λ l. left-none l h)
+      done : Named names → Placed (first_names names) image₀ at image place i → Poured (identifiers 0 40 (names_in names)) (names_size (names_in names)) at image₀ image place
+      done g w =
+          let all : first_names names ≡ names_in names = take_all 64 (names_in names) g.few in
+          let k : length (first_names names) ≤ i = omega arith in
+          let none : drop i (first_names names) ≡ [] = drop_of_length-le (first_names names) k in
+          record { bytes = rw (none, all) at w.rest; long = identifiers-long 0 40 (names_in names); place = let k = rw (none, all) at w.room in omega (arith, k); same = p.same }
 
 -- ---- the parts
 

@@ -1,4 +1,5 @@
 -- Every tag of the image is in place by the reader's place check. Assumes nothing.
+use Rattle.std.specs.Prelude.{Result, Ok, Err}
 use mathlib.Core.Path.{◌≡◌, refl, ap, sym, ◌∙◌}
 use mathlib.Core.Bool.{true}
 use mathlib.Core.List.{List, [], ◌∷◌, ◌++◌, append-nil, append_assoc}
@@ -14,7 +15,6 @@ use Rattle.disc.specs.declared.refusals.Refusal.{Refusal}
 use Rattle.disc.specs.declared.refusals.Refusal.TheVariants.{Malformed}
 use Rattle.tags.specs.Tags.{read_tag, in_place}
 use Rattle.tags.specs.declared.DescriptorTag.{DescriptorTag}
-use Rattle.tags.specs.declared.TagRead.TheVariants.{Read, Refused}
 use Rattle.writers.specs.Layout.{summed, blocks_of, total, partition_for, identifier_size, names_size, directory_size, identifiers, directory, zeros, recognition, recognitions, joined, blanks, directory_part, sector, tag_for, sealed, primary_body, info_body, partition_body, logical_body, unallocated_body, terminating_body, integrity_body, anchor_body, file_set_body, entry_body, identifier_body, identifier_at, recognition_part, sequence, integrity_part, root_part, front, anchor_at, entries, entries_part, files_part, image}
 use Rattle.writers.proofs.SealLaws.{Seal, sector-long, tag_read, volume-placed, partition-placed}
 use Rattle.writers.proofs.SectorLaws.{Whole, sector-at}
@@ -27,10 +27,10 @@ use Rattle.writers.specs.Refusing.{are_good}
 use Rattle.writers.proofs.ImageLaws.{summed-append, small, disk-front, disk-entries, behind_front, part-whole, part_count, front_long, directory-part-long, entries-part-long, few-files, few-blocks}
 use Rattle.writers.specs.Vaults.{Accepted, Placed}
 
-no-tag : (n : ℕ) (s : List ℕ) {why : Refusal} → read_tag s ≡ Refused why → Placed n s
+no-tag : (n : ℕ) (s : List ℕ) {why : Refusal} → read_tag s ≡ Err why → Placed n s
 no-tag n s e t q = absurd (let z : ◌≡◌ {A = ℕ} 0 1 = cc in omega arith)
 
-sector-tag : {id location : ℕ} (body : List ℕ) → Seal id location body → read_tag (sector (sealed id location body)) ≡ Read (tag_for id location body)
+sector-tag : {id location : ℕ} (body : List ℕ) → Seal id location body → read_tag (sector (sealed id location body)) ≡ Ok (tag_for id location body)
 unfolding sector
 sector-tag {id} {location} body h = tag_read body h (zeros (2048 - length (sealed id location body)))
 
@@ -39,7 +39,7 @@ volume-sector {id} {location} body h k l n e t q =
     let w : tag_for id location body ≡ t = same (sym (sector-tag body h) ∙ q) in
     rw (← w, e) (volume-placed body h k l (location - 272))
   where
-    same : {a b : DescriptorTag} → Read a ≡ Read b → a ≡ b
+    same : {a b : DescriptorTag} → ◌≡◌ {A = Result DescriptorTag Refusal} (Ok a) (Ok b) → a ≡ b
     same f = cc
 
 pub partition-sector : {id location : ℕ} (body : List ℕ) → Seal id location body → 256 ≤ id → id ≤ 266 → (n : ℕ) → n - 272 ≡ location → Placed n (sector (sealed id location body))
@@ -47,7 +47,7 @@ partition-sector {id} {location} body h k l n e t q =
     let w : tag_for id location body ≡ t = same (sym (sector-tag body h) ∙ q) in
     rw (← w, e) (partition-placed body h k l n)
   where
-    same : {a b : DescriptorTag} → Read a ≡ Read b → a ≡ b
+    same : {a b : DescriptorTag} → ◌≡◌ {A = Result DescriptorTag Refusal} (Ok a) (Ok b) → a ≡ b
     same f = cc
 
 -- ---- sectors one behind another
@@ -224,13 +224,13 @@ module _ (names : List (List ℕ)) (lengths staging more : List ℕ) (h : Accept
 
 -- an identifier at place o of the directory, whose first byte is in block 8 + o div 2,048
 pub identifier-placed : (o characteristics block : ℕ) (recorded rest : List ℕ) → o < 2 ^ 32 → length recorded ≤ 128 → (t : DescriptorTag)
-    → read_tag (identifier_at o characteristics block recorded ++ rest) ≡ Read t → in_place t (280 + o / 2048) (8 + o / 2048) ≡ true
+    → read_tag (identifier_at o characteristics block recorded ++ rest) ≡ Ok t → in_place t (280 + o / 2048) (8 + o / 2048) ≡ true
 identifier-placed o characteristics block recorded rest h k t q =
     let seal = identifier-seal o characteristics block recorded h k in
     let w : tag_for 257 (8 + o / 2048) (identifier_body characteristics block recorded) ≡ t = same (sym (tag_read (identifier_body characteristics block recorded) seal rest) ∙ q) in
     rw (← w) (partition-placed (identifier_body characteristics block recorded) seal (lit≤ tt) (lit≤ tt) (280 + o / 2048))
   where
-    same : {a b : DescriptorTag} → Read a ≡ Read b → a ≡ b
+    same : {a b : DescriptorTag} → ◌≡◌ {A = Result DescriptorTag Refusal} (Ok a) (Ok b) → a ≡ b
     same f = cc
 
 -- ---- the identifiers in the image: each at its place of the directory, which begins in sector 280
@@ -269,7 +269,7 @@ module _ (names : List (List ℕ)) (lengths staging more : List ℕ) (h : Accept
       rw disk-directory (drop_at ahead_of (directory names ++ behind_directory) 573440 (front_long names lengths staging more h))
       ∙ append_assoc (identifier_at 0 10 2 []) (identifiers 0 40 names) behind_directory
 
-  pub vault-parent-placed : (t : DescriptorTag) → read_tag (drop 573440 (image names lengths staging ++ more)) ≡ Read t → in_place t 280 8 ≡ true
+  pub vault-parent-placed : (t : DescriptorTag) → read_tag (drop 573440 (image names lengths staging ++ more)) ≡ Ok t → in_place t 280 8 ≡ true
   vault-parent-placed t q = identifier-placed 0 10 2 [] (identifiers 0 40 names ++ behind_directory) (lit< tt) (lit≤ tt) t (sym (ap read_tag parent-there) ∙ q)
 
   -- a file's: behind those of the files before it
@@ -299,7 +299,7 @@ module _ (names : List (List ℕ)) (lengths staging more : List ℕ) (h : Accept
         (ap (λ l. drop (573440 + directory_size before) l) (sym (simp append_assoc))
         ∙ drop_at ahead_of_it (identifier_at (directory_size before) 0 (16 + length before) (8 ∷ n) ++ behind_it) (573440 + directory_size before) ahead-of-it)
 
-    pub vault-identifiers-placed : (t : DescriptorTag) → read_tag (drop (573440 + directory_size before) (image names lengths staging ++ more)) ≡ Read t
+    pub vault-identifiers-placed : (t : DescriptorTag) → read_tag (drop (573440 + directory_size before) (image names lengths staging ++ more)) ≡ Ok t
         → in_place t (280 + directory_size before / 2048) (8 + directory_size before / 2048) ≡ true
     vault-identifiers-placed t q =
         let s = ap names_size e ∙ summed-append (λ m. identifier_size (length m)) before (n ∷ after) in

@@ -2,7 +2,7 @@
 use mathlib.Core.Path.{◌≡◌, refl, sym, ap, ◌∙◌}
 use mathlib.Core.List.{List, [], ◌∷◌, ◌++◌, append-nil, append_assoc}
 use Prim.Native.Nat.{ℕ, zero, suc, ◌+◌, ◌-◌, ◌*◌, ◌≤◌}
-use native.Mathlib.Nat.{add-sub_cancel_left, sub-zero}
+use native.Mathlib.Nat.{add-sub_cancel_left}
 use native.Mathlib.Omega.{arith}
 use lib.ListN.{length, take, drop, replicate, length-append, length-drop, length-replicate, replicate-append-replicate, take-append-drop}
 use lib.Seq.{sets, sets-eq, length-sets, drop-drop, length-take-le, drop-length, take-length, take-append-le, drop-append-le}
@@ -52,9 +52,6 @@ poured-as p e f = rw (e, f) at p
 
 -- ---- a front of what is lent
 
-pub front_long : (n : ℕ) (d : List ℕ) → n ≤ length d → length (mid_of 0 (n - 0) d) ≡ n
-front_long n d h = rw sub-zero (length-take-le n d h)
-
 sets-left : (v a b : List ℕ) (at : ℕ) → at + length v ≤ length a → sets (a ++ b) at v ≡ sets a at v ++ b
 sets-left v a b at h =
     let k : at ≤ length a = omega arith in
@@ -62,9 +59,9 @@ sets-left v a b at h =
     sets-eq v (a ++ b) at l ∙ rw (take-append-le at a b k, drop-append-le (at + length v) a b h, sets-eq v a at h) (simp append_assoc)
 
 -- what is poured into the front is poured into the whole
-pub poured-front : {text d y : List ℕ} {size at n r : ℕ} → n ≤ length d → at + size ≤ n → Poured text size at (mid_of 0 (n - 0) d) y r → Poured text size at d (put_mid 0 (n - 0) d y) r
+pub poured-front : {text d y : List ℕ} {size at n r : ℕ} → n ≤ length d → at + size ≤ n → Poured text size at (take n d) y r → Poured text size at d (y ++ drop n d) r
 poured-front {text} {d} {y} {size} {at} {n} h k p =
-    let e : put_mid 0 (n - 0) d y ≡ sets d at text = rw (p.bytes, sub-zero) (sym (sets-left text (take n d) (drop n d) at (rw (length-take-le n d h) (omega (arith, p.long)))) ∙ rw take-append-drop) in
+    let e : y ++ drop n d ≡ sets d at text = rw p.bytes (sym (sets-left text (take n d) (drop n d) at (rw (length-take-le n d h) (omega (arith, p.long)))) ∙ rw take-append-drop) in
     record { bytes = e; long = p.long; place = p.place; same = rw (e, length-sets) }
 
 -- ---- sectors

@@ -1,8 +1,8 @@
 -- A file of the vault read by its ICB: its entry, its one extent, its bytes. Assumes nothing.
+use Rattle.std.specs.Prelude.{Some, None, Ok}
 use mathlib.Core.Path.{◌≡◌, refl, ap, ◌∙◌}
 use mathlib.Core.Bool.{Bool, true, false, not}
 use mathlib.Core.List.{List, [], ◌∷◌, ◌++◌}
-use mathlib.Core.Option.{some}
 use Prim.Native.Nat.{ℕ, ◌+◌, ◌*◌, ◌/◌, ◌%◌, ◌≤◌, ◌<◌, ◌^◌, min, max}
 use native.Mathlib.Omega.{arith}
 use lib.ListN.{take, drop}
@@ -17,7 +17,6 @@ use Rattle.disc.specs.Ran.{ran, after}
 use Rattle.disc.specs.Images.{disc, sectors_for, held_from}
 use Rattle.disc.specs.Places.{placed, icb_placed, icb_start, mapped_start, at_entry, is_checked}
 use Rattle.disc.specs.declared.places.Mount.{Mount}
-use Rattle.disc.specs.declared.places.PartitionRef.TheVariants.{Unnamed}
 use Rattle.disc.proofs.RanLaws.{ran-done, ran-there, ran_then}
 use Rattle.records.specs.Bytes.{le32, u32at, u64at}
 use Rattle.records.specs.Allocations.{short_of}
@@ -26,11 +25,9 @@ use Rattle.areas.specs.Areas.{extent, short_descriptor, descriptor_of, descripto
 use Rattle.areas.specs.declared.AllocExtent.{AllocExtent}
 use Rattle.areas.specs.declared.AdEnding.TheVariants.{End}
 use Rattle.tags.specs.Tags.{read_head}
-use Rattle.tags.specs.declared.TagRead.TheVariants.{Read as ATag}
 use Rattle.entries.specs.IcbTags.{icb_tag_of}
 use Rattle.entries.specs.FileEntries.{plain_tail, entry_of, entry_with, entry_behind, entry_after, read_entry}
 use Rattle.entries.specs.declared.file_entries.FileEntry.{FileEntry}
-use Rattle.entries.specs.declared.file_entries.EntryRead.TheVariants.{Read}
 use Rattle.chains.specs.Chains.{continued}
 use Rattle.files.specs.Reads.{extents_bytes}
 use Rattle.files.specs.Files.{Located, entry_at, entry_mount, chain_of, resolved, file_at, content_of, file_bytes}
@@ -82,11 +79,11 @@ module _ (how : How) where
       by true = refl
       by false = refl
 
-  icb-placed : (block : ℕ) → icb_placed (mount_for how) 0 block ≡ some (272 + block)
+  icb-placed : (block : ℕ) → icb_placed (mount_for how) 0 block ≡ Some (272 + block)
   unfolding icb_placed icb_start mapped_start
   icb-placed block = by how.highest how.checked how.maps
     where
-      by : (h c m : Bool) → icb_placed (mount_for (record { highest = h; checked = c; maps = m })) 0 block ≡ some (272 + block)
+      by : (h c m : Bool) → icb_placed (mount_for (record { highest = h; checked = c; maps = m })) 0 block ≡ Some (272 + block)
       by h c true = refl
       by h c false = refl
 
@@ -111,11 +108,11 @@ module _ (location type permissions size unique block : ℕ) where
   entry = entry_of held (tag_for 261 location body) (icb_tag_of held 16) (plain_tail held)
 
   module _ (l : location < 2 ^ 32) where
-    entry-head : (check : Bool) → read_head check held 261 176 ≡ ATag (tag_for 261 location body)
+    entry-head : (check : Bool) → read_head check held 261 176 ≡ Ok (tag_for 261 location body)
     unfolding entry_body
     entry-head check = sector-head body (entry-seal location type permissions size unique block l) check 176 (lit≤ tt)
 
-    pub entry_read_lem : (check : Bool) → read_entry check held ≡ Read entry
+    pub entry_read_lem : (check : Bool) → read_entry check held ≡ Ok entry
     unfolding read_entry entry_behind entry_with icb_tag_of plain_tail sector sealed entry_body
     entry_read_lem check = ap (entry_after held) (entry-head check)
 
@@ -131,7 +128,7 @@ module _ (location type permissions size unique block : ℕ) where
       high : size / 0x4000_0000 ≡ 0
       high = omega arith
 
-  pub area-one : size < 2 ^ 30 → block < 2 ^ 32 → (size ≡ 0 → ⊥) → area_at 0 held 176 8 ≡ record { extents = extent size 0 block Unnamed ∷ []; ending = End }
+  pub area-one : size < 2 ^ 30 → block < 2 ^ 32 → (size ≡ 0 → ⊥) → area_at 0 held 176 8 ≡ record { extents = extent size 0 block None ∷ []; ending = End }
   unfolding area_at descriptors descriptor_at descriptor_of size_of
   area-one h k n = ap (λ a. behind (short_descriptor a) (ended_by End)) (short-is h k) ∙ rw (ne_eqb size 0 n)
 
@@ -192,7 +189,7 @@ module _ (location type permissions size unique block : ℕ) where
         let s : sectors_for (min size (max 1 size)) ≡ sectors_for size = least size n in
         let z : min size size ≡ size = omega arith in
         bytes_run (area-one h k n) (omega arith)
-        ∙ ap (after 1) ((weigh-held image m (extent size 0 block Unnamed) size refl refl (rw s w)).runs [] ∙ rw (z, le-leb size size (omega arith), s))
+        ∙ ap (after 1) ((weigh-held image m (extent size 0 block None) size refl refl (rw s w)).runs [] ∙ rw (z, le-leb size size (omega arith), s))
       where
         least : (n : ℕ) → (n ≡ 0 → ⊥) → sectors_for (min n (max 1 n)) ≡ sectors_for n
         least n h = let e : min n (max 1 n) ≡ n = omega arith in rw e

@@ -1,4 +1,5 @@
 -- Each descriptor that is written, read by the reader's own definition: what was encoded comes back. Assumes nothing.
+use Rattle.std.specs.Prelude.{Ok}
 use mathlib.Core.Path.{◌≡◌, refl, ap, ◌∙◌}
 use mathlib.Core.Bool.{Bool, true, false}
 use mathlib.Core.List.{List, ◌∷◌, ◌++◌}
@@ -10,7 +11,6 @@ use Rattle.disc.specs.Ask.Outcome.{answered}
 use Rattle.records.proofs.Numbers.{u32-le32}
 use Rattle.descriptors.specs.Volumes.{partition_after, read_partition, read_primary, read_logical}
 use Rattle.descriptors.specs.Recognition.{structure_of, identity_of, identified, nsr}
-use Rattle.descriptors.specs.declared.partitions.PartitionRead.TheVariants.{Read as APartition}
 use Rattle.descriptors.specs.declared.recognition.Structure.{Structure}
 use Rattle.descriptors.specs.declared.recognition.Structure.TheVariants.{Beginning, Nsr, Terminating}
 use Rattle.probes.specs.Probes.{probed_by, probing, yes, probed}
@@ -28,7 +28,7 @@ unfolding sector sealed primary_body
 primary-again check = primary-read check
 
 pub partition-again : (check : Bool) (size : ℕ) → size < 2 ^ 32 → read_partition check (partition_sector size)
-    ≡ APartition (record {
+    ≡ Ok (record {
       tag = tag_for 5 34 (partition_body size);
       volume_descriptor_sequence_number = 2;
       partition_flags = 1;
@@ -39,7 +39,7 @@ pub partition-again : (check : Bool) (size : ℕ) → size < 2 ^ 32 → read_par
 unfolding read_partition sector sealed partition_body
 partition-again check size h =
     ap (partition_after (partition_sector size)) (partition-head check size)
-    ∙ ap (λ n. APartition (record {
+    ∙ ap (λ n. Ok (record {
       tag = tag_for 5 34 (partition_body size);
       volume_descriptor_sequence_number = 2;
       partition_flags = 1;

@@ -1,4 +1,5 @@
 -- A sealed descriptor read by the reader's own definitions: its tag, its body and its place. Assumes nothing.
+use Rattle.std.specs.Prelude.{Ok, Err}
 use mathlib.Core.Path.{◌≡◌, refl}
 use mathlib.Core.Bool.{Bool, true, false}
 use mathlib.Core.List.{List, ◌++◌}
@@ -15,7 +16,6 @@ use Rattle.crcs.specs.Crcs.{crc_of}
 use Rattle.crcs.proofs.Promises.{crc-fits}
 use Rattle.tags.specs.Tags.{listed, read_tag, body_right, with_body, with_id, read_head, in_place}
 use Rattle.tags.specs.Values.{TagValue}
-use Rattle.tags.specs.declared.TagRead.TheVariants.{Read, Refused}
 use Rattle.tags.proofs.RoundTrips.{tag-again}
 use Rattle.tags.proofs.PlaceChecks.{sector-enough, block-enough}
 use Rattle.writers.specs.Layout.{zeros, sector, tag_for, sealed}
@@ -40,7 +40,7 @@ module _ {id location : ℕ} (body : List ℕ) (h : Seal id location body) where
   }
 
   module _ (rest : List ℕ) where
-    pub tag_read : read_tag (sealed id location body ++ rest) ≡ Read (tag_for id location body)
+    pub tag_read : read_tag (sealed id location body ++ rest) ≡ Ok (tag_for id location body)
     unfolding sealed
     tag_read = tag-again (tag_for id location body) (body ++ rest) values h.known
 
@@ -53,11 +53,11 @@ module _ {id location : ℕ} (body : List ℕ) (h : Seal id location body) where
     body-right = rw (le-leb (16 + length body) (length (sealed id location body ++ rest)) (omega (arith, long)), take-append_seam body rest) (eq-eqb (crc_of body) (crc_of body) refl)
 
     -- so it goes through the gate, with bodies checked or not
-    pub head_read : (check : Bool) (size : ℕ) → size ≤ 16 + length body → read_head check (sealed id location body ++ rest) id size ≡ Read (tag_for id location body)
+    pub head_read : (check : Bool) (size : ℕ) → size ≤ 16 + length body → read_head check (sealed id location body ++ rest) id size ≡ Ok (tag_for id location body)
     unfolding read_head with_body with_id
     head_read check size k = rw (le-leb size (length (sealed id location body ++ rest)) (omega (arith, long)), tag_read) (by check)
       where
-        by : (c : Bool) → with_id id (pick c (pick (body_right (sealed id location body ++ rest) (tag_for id location body)) (Read (tag_for id location body)) (Refused BadCrc)) (Read (tag_for id location body))) ≡ Read (tag_for id location body)
+        by : (c : Bool) → with_id id (pick c (pick (body_right (sealed id location body ++ rest) (tag_for id location body)) (Ok (tag_for id location body)) (Err BadCrc)) (Ok (tag_for id location body))) ≡ Ok (tag_for id location body)
         by true = rw (body-right, eq-eqb id id refl)
         by false = rw (eq-eqb id id refl)
 
@@ -66,7 +66,7 @@ module _ {id location : ℕ} (body : List ℕ) (h : Seal id location body) where
   unfolding sector
   sector-long = rw (length-append, length-replicate) (omega (arith, sealed-long id location body, h.short))
 
-  pub sector-head : (check : Bool) (size : ℕ) → size ≤ 16 + length body → read_head check (sector (sealed id location body)) id size ≡ Read (tag_for id location body)
+  pub sector-head : (check : Bool) (size : ℕ) → size ≤ 16 + length body → read_head check (sector (sealed id location body)) id size ≡ Ok (tag_for id location body)
   unfolding sector
   sector-head check size k = head_read (zeros (2048 - length (sealed id location body))) check size k
 

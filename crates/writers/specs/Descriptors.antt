@@ -1,14 +1,12 @@
 -- Which descriptors an image has that was written, and what each is to a reader: RULES 15.11 and 15.12, from the tables of docs/LAYOUT.md, with no word of
 -- how `Layout` puts the image together.
-use Rattle.std.specs.Prelude.{ℕ, zero, suc, ◌+◌, ◌-◌, ◌*◌, ◌/◌, ◌<◌, ◌≡◌, true, List, [], ◌∷◌, ◌++◌, length, take, drop, replicate, eqb}
+use Rattle.std.specs.Prelude.{ℕ, zero, suc, ◌+◌, ◌-◌, ◌*◌, ◌/◌, ◌<◌, ◌≡◌, true, List, [], ◌∷◌, ◌++◌, length, take, drop, replicate, eqb, None, Ok}
 use Rattle.disc.specs.Choice.{pick}
 use Rattle.disc.specs.Ask.{Disc}
 use Rattle.disc.specs.Ask.Held.{holds}
-use Rattle.disc.specs.declared.places.PartitionRef.TheVariants.{Unnamed}
 use Rattle.records.specs.Bytes.{u32at}
 use Rattle.tags.specs.Tags.{read_tag, body_right, in_place}
 use Rattle.tags.specs.declared.DescriptorTag.{DescriptorTag}
-use Rattle.tags.specs.declared.TagRead.TheVariants.{Read}
 use Rattle.areas.specs.Areas.{extent}
 use Rattle.areas.specs.declared.AllocExtent.{AllocExtent}
 use Rattle.writers.specs.Layout.{blocks_of}
@@ -43,7 +41,7 @@ slots total files =
 -- the bytes s begin with a descriptor of this id, whose first byte stands in sector n: its tag is read; its body is right by the reader's own check; the tag is
 -- in place by the reader's own, block 0 being sector 272
 pub record Sound (id n : ℕ) (s : List ℕ) (t : DescriptorTag) : Type 0 where
-  pub read : read_tag s ≡ Read t
+  pub read : read_tag s ≡ Ok t
   pub named : t.id ≡ id
   pub right : body_right s t ≡ true
   pub placed : in_place t n (n - 272) ≡ true
@@ -125,4 +123,4 @@ block_of lengths i = 80 + blocks_of (take i lengths)
 
 -- a file of so many bytes from a block on: one recorded extent of no partition's name, and none of an empty file
 abbrev pub extents_for : ℕ → ℕ → List AllocExtent
-extents_for size block = pick (eqb size 0) [] (extent size 0 block Unnamed ∷ [])
+extents_for size block = pick (eqb size 0) [] (extent size 0 block None ∷ [])

@@ -1,2 +1,3 @@
 -- What contracts below the face alone cite.
 pub mod Pours
+pub mod Replies

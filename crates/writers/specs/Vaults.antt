@@ -1,12 +1,11 @@
 -- Names and lengths that are accepted, and what the reader is to find in the image.
-use Rattle.std.specs.Prelude.{true, false, List, [], ◌∷◌, ◌++◌, ◌≡◌, ◌≤◌, ℕ, ◌+◌, ◌-◌, ◌*◌, ◌/◌, length, drop, get_or}
+use Rattle.std.specs.Prelude.{true, false, List, [], ◌∷◌, ◌++◌, ◌≡◌, ◌≤◌, ℕ, ◌+◌, ◌-◌, ◌*◌, ◌/◌, length, drop, get_or, Ok}
 use Rattle.disc.specs.Choice.{pick}
 use Rattle.disc.specs.Images.{sectors_for}
 use Rattle.disc.specs.declared.places.Mount.{Mount}
 use Rattle.records.specs.declared.allocations.LongAd.{LongAd}
 use Rattle.tags.specs.Tags.{in_place, read_tag}
 use Rattle.tags.specs.declared.DescriptorTag.{DescriptorTag}
-use Rattle.tags.specs.declared.TagRead.TheVariants.{Read}
 use Rattle.volumes.specs.declared.openings.How.{How}
 use Rattle.volumes.specs.declared.openings.VolumeRecord.{VolumeRecord}
 use Rattle.listings.specs.Listings.{record_head}
@@ -61,7 +60,7 @@ file_set_sector = sector (sealed 256 0 file_set_body)
 
 -- the tag at the front of sector n, if there is one, is in place: by its sector, or by its block of the partition
 abbrev pub Placed : ℕ → List ℕ → Type 0
-Placed n s = (t : DescriptorTag) → read_tag s ≡ Read t → in_place t n (n - 272) ≡ true
+Placed n s = (t : DescriptorTag) → read_tag s ≡ Ok t → in_place t n (n - 272) ≡ true
 
 -- what a call leaves that isn't refused
 pub record Left (names lengths staging lent : List ℕ) (w : Written) : Type 0 where

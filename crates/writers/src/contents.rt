@@ -6,7 +6,6 @@ ghost use Rattle.writers.specs.Refusing.{longest, are_short};
 ghost use Rattle.writers.specs.Inner.Pours.{Kept, Sums, Staged};
 
 use crate::seals::{blank, put};
-use disc::moves::least;
 
 // The most bytes of a file.
 const LONGEST: u64 = 1073739776;
@@ -15,21 +14,14 @@ const LONGEST: u64 = 1073739776;
 pub(crate) fn are_short(lengths: &[u64]) -> bool
     ensures { result ≡ are_short lengths.now }
 {
-    let mut i = 0;
-    while i < lengths.len() {
-        if LONGEST < lengths[i] {
-            return false;
-        }
-        i += 1;
-    }
-    true
+    lengths.iter().all(|n| *n <= LONGEST)
 }
 
 // A length, or the most that one may be: a length that was tested may be another by now.
 pub(crate) fn held(n: u64) -> u64
     ensures { result ≡ min n longest }
 {
-    if n < LONGEST { n } else { LONGEST }
+    n.min(LONGEST)
 }
 
 // The bytes of all files.
@@ -37,13 +29,7 @@ pub(crate) fn sum_of(lengths: &[u64]) -> u64
     requires { length lengths.now ≤ 64 }
     ensures { Sums (λ n. n) lengths.now result }
 {
-    let mut n: u64 = 0;
-    let mut i = 0;
-    while i < lengths.len() {
-        n += held(lengths[i]);
-        i += 1;
-    }
-    n
+    lengths.iter().map(|n| held(*n)).sum()
 }
 
 // The sectors of all files.
@@ -51,13 +37,7 @@ pub(crate) fn blocks_of(lengths: &[u64]) -> u64
     requires { length lengths.now ≤ 64 }
     ensures { Sums sectors_for lengths.now result }
 {
-    let mut n: u64 = 0;
-    let mut i = 0;
-    while i < lengths.len() {
-        n += (held(lengths[i]) + 2047) / 2048;
-        i += 1;
-    }
-    n
+    lengths.iter().map(|n| held(*n).div_ceil(2048)).sum()
 }
 
 // A file, with zeros up to the end of its last sector; nothing where there is no room for it.
@@ -65,7 +45,7 @@ fn pour_file(text: &[u8], image: &mut [u8], at: usize) -> usize
     requires { at ≤ length image.old }
     ensures { Kept (at + 2048 * sectors_for (length text.now) ≤ length image.old) (text.now ++ zeros (2048 * sectors_for (length text.now) - length text.now)) (2048 * sectors_for (length text.now)) at (length image.old) image.old image.new result }
 {
-    let size = (text.len() + 2047) / 2048 * 2048;
+    let size = text.len().next_multiple_of(2048);
     if image.len() - at < size {
         return at;
     }
@@ -78,15 +58,12 @@ pub(crate) fn pour_files(lengths: &[u64], staging: &[u8], image: &mut [u8], at: 
     requires { at ≤ length image.old }
     ensures { Kept (Staged lengths.now staging.now at image.old) (files_part lengths.now staging.now) (2048 * blocks_of lengths.now) at (length image.old) image.old image.new result }
 {
-    let mut i = 0;
-    let mut from: usize = 0;
+    let mut rest = staging;
     let mut place = at;
-    while i < lengths.len() {
-        let left = staging.len() - from;
-        let end = from + least(lengths[i] as usize, left);
-        place = pour_file(&staging[from..end], image, place);
-        from = end;
-        i += 1;
+    for length in lengths {
+        let (file, behind) = rest.split_at(rest.len().min(*length as usize));
+        place = pour_file(file, image, place);
+        rest = behind;
     }
     place
 }

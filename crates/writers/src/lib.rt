@@ -13,15 +13,15 @@
 mod bodies;
 pub mod contents;
 pub mod namings;
-pub mod numbers;
 pub mod parts;
 pub mod seals;
 pub mod structures;
 
 ghost use Rattle.std.specs.Prelude.{◌≡◌, ◌*◌, ◌≤◌, length};
 ghost use Rattle.writers.specs.Layout.{image as layout};
-ghost use Rattle.writers.specs.Refusing.{names_in, good_files, refused_by, total_of, writes};
+ghost use Rattle.writers.specs.Refusing.{names_in, good_files, total_of, writes};
 ghost use Rattle.writers.specs.Inner.Pours.{Kept, Heads, Ready, head};
+ghost use Rattle.writers.specs.Inner.Replies.{reply_of};
 
 use crate::contents::{are_short, blocks_of, pour_files, sum_of};
 use crate::namings::{are_good, count_of, directory_size};
@@ -37,13 +37,19 @@ pub struct WriteReply {
     pub sectors: u64,
 }
 
-// A refusal.
-fn refusal(why: Refusal) -> WriteReply
-    ensures { result ≡ refused_by why }
+// What is answered.
+fn reply(sectors: Result<u64, Refusal>) -> WriteReply
+    ensures { result ≡ reply_of sectors }
 {
-    WriteReply {
-        answer: why.number(),
-        sectors: 0,
+    match sectors {
+        Ok(sectors) => WriteReply {
+            answer: DONE,
+            sectors,
+        },
+        Err(why) => WriteReply {
+            answer: why.number(),
+            sectors: 0,
+        },
     }
 }
 
@@ -52,29 +58,27 @@ fn are_files(names: &[u8], lengths: &[u64]) -> bool
     ensures { result ≡ good_files names.now lengths.now }
 {
     let count = count_of(names);
-    if 64 < count {
-        return false;
+    count <= 64 && count == lengths.len() && are_short(lengths)
+}
+
+// The sectors of an image of these files: 352 before the files, the files, and the last anchor's, filled up to whole blocks of 32.
+fn try_total(names: &[u8], lengths: &[u64]) -> Result<u64, Refusal>
+    ensures { reply_of result ≡ total_of names.now lengths.now }
+{
+    if !are_good(names) {
+        return Err(Refusal::BadName);
     }
-    if count != lengths.len() {
-        return false;
+    if !are_files(names, lengths) {
+        return Err(Refusal::BadFiles);
     }
-    are_short(lengths)
+    Ok((353 + blocks_of(lengths)).next_multiple_of(32))
 }
 
 // The sectors of an image of these files: the refusals of writing it, but for those of the memory that is lent.
 pub fn total(names: &[u8], lengths: &[u64]) -> WriteReply
     ensures { result ≡ total_of names.now lengths.now }
 {
-    if !are_good(names) {
-        return refusal(Refusal::BadName);
-    }
-    if !are_files(names, lengths) {
-        return refusal(Refusal::BadFiles);
-    }
-    WriteReply {
-        answer: DONE,
-        sectors: (384 + blocks_of(lengths)) / 32 * 32,
-    }
+    reply(try_total(names, lengths))
 }
 
 // What stands before the files, sectors 0 to 351: of a partition of so many blocks.
@@ -96,8 +100,29 @@ fn pour(names: &[u8], lengths: &[u64], staging: &[u8], sectors: u64, image: &mut
 {
     let last = image.len() - 2048;
     let data = pour_head(names, lengths, (sectors - 273) as u32, image);
-    let rest = pour_files(lengths, staging, &mut image[0..last], data);
+    let rest = pour_files(lengths, staging, &mut image[..last], data);
     pour_end(last - rest, (sectors - 1) as u32, image, rest);
+}
+
+// The image, written after all tests; how many sectors it has.
+fn try_write(
+    names: &[u8],
+    lengths: &[u64],
+    staging: &[u8],
+    image: &mut [u8],
+) -> Result<u64, Refusal>
+    ensures { record { reply = reply_of result; image = image.new } ≡ writes names.now lengths.now staging.now image.old }
+{
+    let sectors = try_total(names, lengths)?;
+    if (staging.len() as u64) < sum_of(lengths) {
+        return Err(Refusal::BadFiles);
+    }
+    if ((image.len() / 2048) as u64) < sectors {
+        return Err(Refusal::NoRoom);
+    }
+    let end = sectors as usize * 2048;
+    pour(names, lengths, staging, sectors, &mut image[..end]);
+    Ok(sectors)
 }
 
 // A vault of these files: names, each ended by a zero byte; the length of each; the staging area, in which the files stand one behind another. The image
@@ -105,17 +130,5 @@ fn pour(names: &[u8], lengths: &[u64], staging: &[u8], sectors: u64, image: &mut
 pub fn write(names: &[u8], lengths: &[u64], staging: &[u8], image: &mut [u8]) -> WriteReply
     ensures { record { reply = result; image = image.new } ≡ writes names.now lengths.now staging.now image.old }
 {
-    let reply = total(names, lengths);
-    if reply.answer != DONE {
-        return reply;
-    }
-    if (staging.len() as u64) < sum_of(lengths) {
-        return refusal(Refusal::BadFiles);
-    }
-    if ((image.len() / 2048) as u64) < reply.sectors {
-        return refusal(Refusal::NoRoom);
-    }
-    let end = reply.sectors as usize * 2048;
-    pour(names, lengths, staging, reply.sectors, &mut image[0..end]);
-    reply
+    reply(try_write(names, lengths, staging, image))
 }

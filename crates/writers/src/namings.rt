@@ -1,136 +1,102 @@
 // The names of the files, each ended by a zero byte.
-ghost use Rattle.std.specs.Prelude.{◌≡◌, true, ◌+◌, ◌≤◌, ◌<◌, length, drop};
-ghost use Rattle.names.specs.Names.{lower, same_name};
-ghost use Rattle.writers.specs.Refusing.{names_in, is_plain, is_good, is_among, good_names};
-ghost use Rattle.writers.specs.Inner.Pours.{NameEnd, NameStop, Sized};
+ghost use Rattle.std.specs.Prelude.{◌≡◌, ◌≤◌, length};
+ghost use Rattle.std.specs.Iterator.{YieldsFirstRef, item_count};
+ghost use Rattle.names.specs.Names.{until_zero, lower, same_name};
+ghost use Rattle.writers.specs.Layout.{identifier_size};
+ghost use Rattle.writers.specs.Refusing.{names_in, is_ended, is_plain, is_good, is_among, good_names};
+ghost use Rattle.writers.specs.Inner.Pours.{Sized};
 
 use names::matching::{Fold, same_byte};
 
-// Where the name that starts at `at` ends.
-pub(crate) fn name_end(names: &[u8], at: usize) -> usize
-    requires { at ≤ length names.now }
-    ensures { NameEnd names.now at result }
-{
-    let mut i = at;
-    while i < names.len() {
-        if names[i] == 0 {
-            return i;
+// What is left of the names. The last one may lack its zero byte.
+#[derive(Clone, Copy)]
+pub(crate) struct Names<'a>(pub(crate) &'a [u8]);
+
+impl<'a> Iterator for Names<'a> {
+    type Item = &'a [u8];
+
+    ghost next_gives = { YieldsFirstRef (λ s. names_in s.0.now) };
+
+    ghost remaining = { item_count (λ s. names_in s.0.now) };
+
+    fn next(&mut self) -> Option<&'a [u8]> {
+        if self.0.is_empty() {
+            return None;
         }
-        i += 1;
+        let end = name_end(self.0);
+        let name = &self.0[..end];
+        self.0 = &self.0[self.0.len().min(end + 1)..];
+        Some(name)
     }
-    i
 }
 
-// Where it ends if no more than 127 bytes are written of it, whatever the names hold by now.
-pub(crate) fn name_stop(names: &[u8], at: usize) -> usize
-    requires { at ≤ length names.now }
-    ensures { NameStop names.now at result }
+// Where the first name ends.
+fn name_end(names: &[u8]) -> usize
+    ensures is { result ≡ length (until_zero names.now) }
+    ensures within { result ≤ length names.now }
 {
-    let end = name_end(names, at);
-    if 127 < end - at {
-        return at + 127;
-    }
-    end
+    names.iter().position(|b| *b == 0).unwrap_or(names.len())
 }
 
 // How many names there are.
 pub(crate) fn count_of(names: &[u8]) -> usize
     ensures { result ≡ length (names_in names.now) }
 {
-    let mut n: usize = 0;
-    let mut from = 0;
-    while from < names.len() {
-        let end = name_end(names, from);
-        n += 1;
-        from = end + 1;
-    }
-    n
+    Names(names).count()
 }
 
-// The bytes of the directory, of 64 names at most.
+// The bytes of a file's identifier, which is filled up to whole fours.
+pub(crate) fn identifier_size(name: usize) -> usize
+    requires { name ≤ 127 }
+    ensures { result ≡ identifier_size name }
+{
+    (39 + name).next_multiple_of(4)
+}
+
+// The bytes of the directory, of 64 names of 127 bytes at most.
 pub(crate) fn directory_size(names: &[u8]) -> usize
     ensures { Sized names.now result }
 {
-    let mut size: usize = 40;
-    let mut from = 0;
-    let mut i: usize = 0;
-    while i < 64 {
-        if names.len() <= from {
-            return size;
-        }
-        let end = name_stop(names, from);
-        size += (end - from + 42) / 4 * 4;
-        from = end + 1;
-        i += 1;
+    let mut size = 40;
+    for name in Names(names).take(64) {
+        size += identifier_size(name.len().min(127));
     }
     size
 }
 
+// A byte of a name.
 fn is_plain(b: u8) -> bool
     ensures { result ≡ is_plain b }
 {
-    if b < 0x21 {
-        return false;
-    }
-    if 0x7e < b {
-        return false;
-    }
-    if b == 0x2f {
-        return false;
-    }
-    true
+    b.is_ascii_graphic() && b != b'/'
 }
 
 // Whether a name is 1 to 127 bytes of 21 to 7E without 2F.
 fn is_good(name: &[u8]) -> bool
     ensures { result ≡ is_good name.now }
 {
-    if name.len() == 0 {
-        return false;
-    }
-    if 127 < name.len() {
-        return false;
-    }
-    let mut i = 0;
-    while i < name.len() {
-        if !is_plain(name[i]) {
-            return false;
-        }
-        i += 1;
-    }
-    true
+    (1..=127).contains(&name.len()) && name.iter().all(|b| is_plain(*b))
 }
 
 // Whether two names are equal with ASCII case ignored.
 fn is_same(a: &[u8], b: &[u8]) -> bool
     ensures { result ≡ same_name lower a.now b.now }
 {
-    if a.len() != b.len() {
-        return false;
-    }
-    let mut i = 0;
-    while i < a.len() {
-        if !same_byte(Fold::Lower, a[i], b[i]) {
-            return false;
-        }
-        i += 1;
-    }
-    true
+    a.len() == b.len() && a.iter().zip(b).all(|(x, y)| same_byte(Fold::Lower, *x, *y))
 }
 
-// Whether a name stands among those from `behind` on.
-fn is_among(name: &[u8], names: &[u8], behind: usize) -> bool
-    ensures { result ≡ is_among name.now (names_in (drop behind names.now)) }
+// Whether a name stands among others.
+fn is_among(name: &[u8], others: &[u8]) -> bool
+    ensures { result ≡ is_among name.now (names_in others.now) }
 {
-    let mut from = behind;
-    while from < names.len() {
-        let end = name_end(names, from);
-        if is_same(name, &names[from..end]) {
-            return true;
-        }
-        from = end + 1;
-    }
-    false
+    Names(others).any(|other| is_same(name, other))
+}
+
+// Whether the last name has its zero byte.
+fn is_ended(names: &[u8]) -> bool
+    ensures { result ≡ is_ended names.now }
+{
+    names.last().is_none_or(|b| *b == 0)
 }
 
 // Whether every name is good, has its zero byte, and stands there once with ASCII case ignored. It is compared with each name behind it: n names take
@@ -139,19 +105,15 @@ fn is_among(name: &[u8], names: &[u8], behind: usize) -> bool
 pub(crate) fn are_good(names: &[u8]) -> bool
     ensures { result ≡ good_names names.now }
 {
-    let mut from = 0;
-    while from < names.len() {
-        let end = name_end(names, from);
-        if names.len() <= end {
+    if !is_ended(names) {
+        return false;
+    }
+    let mut left = Names(names);
+    // No `for`: what is left is read inside.
+    while let Some(name) = left.next() {
+        if !is_good(name) || is_among(name, left.0) {
             return false;
         }
-        if !is_good(&names[from..end]) {
-            return false;
-        }
-        if is_among(&names[from..end], names, end + 1) {
-            return false;
-        }
-        from = end + 1;
     }
     true
 }

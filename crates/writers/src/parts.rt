@@ -4,13 +4,11 @@ ghost use Rattle.writers.specs.Layout.{zeros, names_size, joined, recognition_pa
 ghost use Rattle.writers.specs.Refusing.{names_in, are_short};
 ghost use Rattle.writers.specs.Inner.Pours.{Poured, Kept, Named};
 
+use crate::bodies::{ANCHOR, FILE_SET, INFO, LOGICAL, PARENT, PRIMARY, TERMINATING, UNALLOCATED};
 use crate::contents::held;
-use crate::namings::name_stop;
-use crate::seals::{blank, blank_sectors, put_sector};
-use crate::structures::{
-    anchor, file_entry, file_set, identifier, info, integrity, logical, parent, partition, primary,
-    root_entry, terminating, unallocated,
-};
+use crate::namings::Names;
+use crate::seals::{blank, blank_sectors, put_sector, seal, seal_sector};
+use crate::structures::{file_entry, identifier, integrity_body, partition_body, root_entry};
 
 // Sectors 0 to 31: the recognition sequence.
 fn pour_recognition(image: &mut [u8], at: usize) -> usize
@@ -29,12 +27,12 @@ fn pour_sequence(location: u32, size: u32, image: &mut [u8], at: usize) -> usize
     requires { (location < 256) × (at + 32768 ≤ length image.old) }
     ensures { Poured (joined (sequence location size)) 32768 at image.old image.new result }
 {
-    let second = primary(location, image, at);
-    let third = info(location + 1, image, second);
-    let fourth = partition(location + 2, size, image, third);
-    let fifth = logical(location + 3, image, fourth);
-    let sixth = unallocated(location + 4, image, fifth);
-    let behind = terminating(location + 5, image, sixth);
+    let second = seal_sector(1, location, &PRIMARY, image, at);
+    let third = seal_sector(4, location + 1, &INFO, image, second);
+    let fourth = seal_sector(5, location + 2, &partition_body(size), image, third);
+    let fifth = seal_sector(6, location + 3, &LOGICAL, image, fourth);
+    let sixth = seal_sector(7, location + 4, &UNALLOCATED, image, fifth);
+    let behind = seal_sector(8, location + 5, &TERMINATING, image, sixth);
     blank_sectors(10, image, behind)
 }
 
@@ -43,10 +41,10 @@ fn pour_integrity(size: u32, files: u32, image: &mut [u8], at: usize) -> usize
     requires { (files ≤ 64) × (at + 425984 ≤ length image.old) }
     ensures { Poured (joined (integrity_part size files)) 425984 at image.old image.new result }
 {
-    let second = integrity(size, files, image, at);
-    let third = terminating(65, image, second);
+    let second = seal_sector(9, 64, &integrity_body(size, files), image, at);
+    let third = seal_sector(8, 65, &TERMINATING, image, second);
     let fourth = blank_sectors(190, image, third);
-    let behind = anchor(256, image, fourth);
+    let behind = seal_sector(2, 256, &ANCHOR, image, fourth);
     blank_sectors(15, image, behind)
 }
 
@@ -55,7 +53,7 @@ fn pour_root(size: u32, image: &mut [u8], at: usize) -> usize
     requires { at + 16384 ≤ length image.old }
     ensures { Poured (joined (root_part size)) 16384 at image.old image.new result }
 {
-    let second = file_set(image, at);
+    let second = seal_sector(256, 0, &FILE_SET, image, at);
     let third = blank_sectors(1, image, second);
     let behind = root_entry(size, image, third);
     blank_sectors(5, image, behind)
@@ -79,17 +77,9 @@ fn pour_identifiers(names: &[u8], image: &mut [u8], at: usize) -> usize
     ensures { Kept (Named names.now) (identifiers 0 40 (names_in names.now)) (names_size (names_in names.now)) at (at + 10752) image.old image.new result }
 {
     let mut place = at;
-    let mut i: u32 = 0;
-    let mut from = 0;
-    while i < 64 {
-        if names.len() <= from {
-            return place;
-        }
-        let end = name_stop(names, from);
+    for (i, name) in Names(names).take(64).enumerate() {
         let o = (place - at + 40) as u32;
-        place = identifier(&names[from..end], i, o, image, place);
-        i += 1;
-        from = end + 1;
+        place = identifier(&name[..name.len().min(127)], i as u32, o, image, place);
     }
     place
 }
@@ -99,7 +89,7 @@ pub(crate) fn pour_directory(names: &[u8], image: &mut [u8], at: usize) -> usize
     requires { at + 16384 ≤ length image.old }
     ensures { Kept (Named names.now) (directory_part (names_in names.now)) 16384 at (at + 16384) image.old image.new result }
 {
-    let first = parent(image, at);
+    let first = seal(257, 8, &PARENT, image, at);
     let behind = pour_identifiers(names, image, first);
     blank(at + 16384 - behind, image, behind)
 }
@@ -111,12 +101,10 @@ fn pour_entry_row(lengths: &[u64], image: &mut [u8], at: usize) -> usize
 {
     let mut place = at;
     let mut block: u32 = 80;
-    let mut i = 0;
-    while i < lengths.len() {
-        let size = held(lengths[i]) as u32;
+    for (i, length) in lengths.iter().enumerate() {
+        let size = held(*length) as u32;
         place = file_entry(i as u32, size, block, image, place);
-        block += (size + 2047) / 2048;
-        i += 1;
+        block += size.div_ceil(2048);
     }
     place
 }
@@ -136,5 +124,5 @@ pub(crate) fn pour_end(n: usize, location: u32, image: &mut [u8], at: usize) -> 
     ensures { Poured (zeros n ++ anchor_at location) (n + 2048) at image.old image.new result }
 {
     let last = blank(n, image, at);
-    anchor(location, image, last)
+    seal_sector(2, location, &ANCHOR, image, last)
 }

@@ -6,4 +6,4 @@ use Rattle.area_cases.proofs.walk.Goals as goal
 ruleset steps = (ahead-less, rules)
 
 pub loop-e-smaller : goal.loop-e-smaller
-loop-e-smaller c = search steps
+loop-e-smaller g c = search steps

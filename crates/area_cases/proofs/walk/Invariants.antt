@@ -2,4 +2,4 @@
 use Rattle.area_cases.proofs.walk.Given as goal
 
 abbrev pub decreases-loop-e : goal.decreases-loop-e
-decreases-loop-e l = l.c.left
+decreases-loop-e g l = l.c.left

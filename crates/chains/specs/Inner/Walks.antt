@@ -1,7 +1,6 @@
 -- What a cursor stands for: the extents left of a chain, read from the image where its areas are. That these are the extents of a whole chain is
 -- proved (proofs/FollowLaws.antt).
-use Rattle.std.specs.Prelude.{ℕ, zero, suc, ◌+◌, ◌-◌, ◌*◌, ◌≤◌, ◌^◌, ◌≡◌, List, [], ◌++◌, length, eqb}
-use Rattle.std.proofs.Math.Option.{Option, none, some}
+use Rattle.std.specs.Prelude.{ℕ, zero, suc, ◌+◌, ◌-◌, ◌*◌, ◌≤◌, ◌^◌, ◌≡◌, List, [], ◌++◌, length, eqb, Option, Some, None}
 use Rattle.disc.specs.Choice.{pick}
 use Rattle.disc.specs.Counts.{reported}
 use Rattle.disc.specs.Places.{placed}
@@ -27,8 +26,8 @@ abbrev pub area_size : List ℕ → ℕ → ℕ
 area_size image s = u32at image (2048 * s + 20)
 
 abbrev pub area_there : List ℕ → ℕ → Option ℕ → Area
-area_there image kind none = ended End
-area_there image kind (some s) = area_at kind image (area_place s) (area_size image s)
+area_there image kind None = ended End
+area_there image kind (Some s) = area_at kind image (area_place s) (area_size image s)
 
 abbrev pub next_there : List ℕ → Mount → ℕ → AdContinuation → Area
 next_there image m kind a = area_there image kind (placed m a.partition_ref a.block.0)
@@ -49,8 +48,8 @@ left image m kind c = through image m kind c.hops (area_at kind image c.at c.lef
 
 -- how many areas are followed after an area, at most n
 abbrev pub one_more : Option ℕ → ℕ → ℕ
-one_more none n = 0
-one_more (some s) n = suc n
+one_more None n = 0
+one_more (Some s) n = suc n
 
 unfoldable pub passed : List ℕ → Mount → ℕ → ℕ → AdEnding → ℕ
 passed image m kind zero how = 0
@@ -68,8 +67,8 @@ weight c = c.hops * 2 ^ 32 + c.left
 -- ---- a step
 
 abbrev pub hop_to : List ℕ → Option ℕ → ℕ → ChainStep
-hop_to image none hops = Ends
-hop_to image (some s) hops = Hops (record { at = area_place s; left = area_size image s; hops = hops - 1 })
+hop_to image None hops = Ends
+hop_to image (Some s) hops = Hops (record { at = area_place s; left = area_size image s; hops = hops - 1 })
 
 abbrev pub hopping : List ℕ → Mount → AdContinuation → ℕ → ChainStep
 hopping image m a hops = pick (eqb hops 0) Ends (hop_to image (placed m a.partition_ref a.block.0) hops)

@@ -3,10 +3,6 @@ use borrow.Author.Rules.{rules}
 use Rattle.crcs.specs.Crcs.{crc_of}
 use Rattle.crcs.proofs.crc.Goals as goal
 
-pub crc_behind-requires : goal.crc_behind-requires
-unfolding crc_of
-crc_behind-requires c = search rules
-
 pub returns : goal.returns
 unfolding crc_of
 returns c = search rules

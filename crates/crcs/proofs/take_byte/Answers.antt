@@ -5,11 +5,5 @@ use Rattle.crcs.proofs.take_byte.Goals as goal
 
 ruleset steps = (out-byte, out-fits, byte-by, rules)
 
-pub offset_bounds-t-out : goal.offset_bounds-t-out
-offset_bounds-t-out c = search steps
-
-pub bounds-t-out : goal.bounds-t-out
-bounds-t-out c = search steps
-
 pub returns : goal.returns
 returns c = search steps

@@ -5,11 +5,8 @@ use Rattle.crcs.proofs.take_bytes.Goals as goal
 
 ruleset bytes = (taken_start, taken_next, taken-end, rules)
 
-pub loop-i-init : goal.loop-i-init
-loop-i-init c = search bytes
-
-pub loop-i-preserved : goal.loop-i-preserved
-loop-i-preserved c = search bytes
+pub loop-b-preserved : goal.loop-b-preserved
+loop-b-preserved c = search bytes
 
 pub returns : goal.returns
 returns c = search bytes

@@ -1,11 +1,6 @@
 -- `crcs::take_bytes` meets its contract: what is left gives what the whole gives. Assumes nothing.
-use Prim.Native.Nat.{◌-◌}
-use lib.ListN.{length}
 use Rattle.crcs.proofs.LoopLaws.{Taken}
 use Rattle.crcs.proofs.take_bytes.Given as goal
 
-abbrev pub invariant-loop-i : goal.invariant-loop-i
-invariant-loop-i l = Taken l.t l.from l.s l.c l.i
-
-abbrev pub decreases-loop-i : goal.decreases-loop-i
-decreases-loop-i l = length l.s - l.i
+abbrev pub invariant-loop-b : goal.invariant-loop-b
+invariant-loop-b l = Taken l.t l.from l.s l.c l.b-index

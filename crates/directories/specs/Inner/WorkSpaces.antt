@@ -1,6 +1,5 @@
 -- What a walk along a path leaves in the work space: each directory read, over the front of what the one before it left.
-use Rattle.std.specs.Prelude.{ℕ, Bool, true, false, List, [], ◌∷◌, length, drop}
-use Rattle.std.proofs.Math.Option.{Option, none, some}
+use Rattle.std.specs.Prelude.{ℕ, Bool, true, false, List, [], ◌∷◌, length, drop, Option, Some, None}
 use Rattle.disc.specs.Choice.{pick}
 use Rattle.disc.specs.Ask.{Disc, Outcome}
 use Rattle.disc.specs.Ask.Outcome.{answered, refused}
@@ -22,8 +21,8 @@ read_into d v work icb = on_front (ran d (directory_bytes v (length work) icb)).
 
 -- after a component was looked for: the walk goes on at its entry, or has ended
 abbrev pub walked_on : Outcome (Option Entry) → List ℕ → (Entry → List ℕ) → List ℕ
-walked_on (answered (some e)) work rest = rest e
-walked_on (answered none) work rest = work
+walked_on (answered (Some e)) work rest = rest e
+walked_on (answered None) work rest = work
 walked_on (refused r) work rest = work
 
 -- after a walk along components: one under a file is lost before anything is read

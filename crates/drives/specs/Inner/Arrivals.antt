@@ -1,10 +1,9 @@
 -- What a sector leads to once it has arrived: for the contracts of private functions.
-use Rattle.std.specs.Prelude.{ℕ, ◌+◌, ◌-◌, ◌≤◌, ◌≡◌, true, false, List, length, take, eqb, leb}
+use Rattle.std.specs.Prelude.{ℕ, ◌+◌, ◌-◌, ◌≤◌, ◌≡◌, true, false, List, length, take, eqb, leb, Result}
 use Rattle.disc.specs.Choice.{pick}
 use Rattle.disc.specs.Places.{is_checked}
 use Rattle.disc.specs.declared.places.Mount.{Mount}
 use Rattle.entries.specs.FileEntries.{read_entry}
-use Rattle.entries.specs.declared.file_entries.EntryRead.{EntryRead}
 use Rattle.files.specs.Files.{located}
 use Rattle.drives.specs.Feeds.{Feed, following, settled_in}
 use Rattle.drives.specs.Feeds.Feed.{over, put}
@@ -14,6 +13,8 @@ use Rattle.drives.specs.Inner.Turns.{ReadingStands}
 use Rattle.drives.specs.Inner.Bodies.{no_body, head_behind, part_behind}
 use Rattle.drives.specs.Inner.Scans.{begun}
 use Rattle.drives.specs.declared.readings.Reading.{Reading}
+use Rattle.entries.specs.declared.file_entries.FileEntry.{FileEntry}
+use Rattle.disc.specs.declared.refusals.Refusal.{Refusal}
 
 -- before the entry's sector: nothing is known yet but where it stands and how it is read
 abbrev pub beginning : Mount → ℕ → Reading
@@ -35,7 +36,7 @@ beginning m at = record {
 }
 
 -- behind the entry's sector
-unfoldable pub entry_behind : Reading → EntryRead → List ℕ → Feed
+unfoldable pub entry_behind : Reading → Result FileEntry Refusal → List ℕ → Feed
 entry_behind r e b = following (located r.at b e) (entry_feed r.mount)
 
 -- behind a sector of an extent: its bytes, and what follows them

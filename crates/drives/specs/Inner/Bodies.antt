@@ -1,5 +1,5 @@
 -- A continuation whose sectors come one at a time: what the private functions say.
-use Rattle.std.specs.Prelude.{ℕ, ◌+◌, ◌-◌, ◌≤◌, ◌≡◌, Bool, true, false, not, ◌&&◌, List, [], ◌++◌, length, take, drop, eqb, leb}
+use Rattle.std.specs.Prelude.{ℕ, ◌+◌, ◌-◌, ◌≤◌, ◌≡◌, Bool, true, false, not, ◌&&◌, List, [], ◌++◌, length, take, drop, eqb, leb, Result, Ok, Err}
 use Rattle.disc.specs.Choice.{pick}
 use Rattle.disc.specs.Images.{sectors}
 use Rattle.disc.specs.Places.{is_checked}
@@ -7,8 +7,6 @@ use Rattle.records.specs.Bytes.{u32at}
 use Rattle.crcs.specs.Crcs.{crc_from}
 use Rattle.tags.specs.Tags.{read_aed}
 use Rattle.tags.specs.declared.DescriptorTag.{DescriptorTag}
-use Rattle.tags.specs.declared.TagRead.{TagRead}
-use Rattle.tags.specs.declared.TagRead.TheVariants.{Read, Refused}
 use Rattle.chains.specs.Chains.{area_in}
 use Rattle.drives.specs.Feeds.{Feed, following, naming, settled_in, crowded_by}
 use Rattle.drives.specs.Feeds.Feed.{name}
@@ -18,6 +16,7 @@ use Rattle.drives.specs.Inner.Turns.{quiet}
 use Rattle.drives.specs.declared.scans.Scan.{Scan}
 use Rattle.drives.specs.declared.readings.Body.{Body}
 use Rattle.drives.specs.declared.readings.Reading.{Reading}
+use Rattle.disc.specs.declared.refusals.Refusal.{Refusal}
 
 -- ---- the header's verdict, once all has come
 
@@ -53,9 +52,9 @@ body_of t size s = record {
 abbrev pub no_body : Body
 no_body = record { tagged = false; headed = false; crc = 0; summed = 0; body_left = 0; area_left = 0 }
 
-abbrev pub body_in : TagRead → ℕ → List ℕ → Body
-body_in (Read t) size s = body_of t size s
-body_in (Refused r) size s = no_body
+abbrev pub body_in : Result DescriptorTag Refusal → ℕ → List ℕ → Body
+body_in (Ok t) size s = body_of t size s
+body_in (Err r) size s = no_body
 
 -- a further one
 abbrev pub body_behind : Body → List ℕ → Body

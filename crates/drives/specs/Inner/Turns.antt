@@ -1,5 +1,5 @@
 -- Where a read goes on from what it was lent: what the private functions say.
-use Rattle.std.specs.Prelude.{ℕ, zero, suc, ◌-◌, ◌≡◌, true, false, List, [], ◌∷◌, length, drop, leb}
+use Rattle.std.specs.Prelude.{ℕ, zero, suc, ◌-◌, ◌≡◌, true, false, List, [], ◌∷◌, length, drop, leb, Option, Some, None}
 use Rattle.disc.specs.Choice.{pick}
 use Rattle.disc.specs.Images.{sectors_for}
 use Rattle.disc.specs.Places.{is_checked}
@@ -16,7 +16,6 @@ use Rattle.drives.specs.Readings.{reference_in, extent_in, extents_in, reading_o
 use Rattle.drives.specs.Beginnings.{ended_with}
 use Rattle.drives.specs.declared.scans.Scan.{Scan}
 use Rattle.drives.specs.declared.readings.Reading.{Reading}
-use Rattle.drives.specs.declared.turns.ExtentTurn.{ExtentTurn}
 
 -- a state that has ended
 pub record Ends (r : Reading) (number : ℕ) (r' : Reading) : Type 0 where
@@ -43,17 +42,18 @@ abbrev pub extents_behind : Reading → List (List ℕ) → ℕ → ℕ → Feed
 extents_behind r row next left = pick (leb left 0) over (extents_feed r.mount (drop next (extents_in row r.scan.listed)) left)
 
 -- an extent: it is passed over, for it has no byte, or the read goes on there
-pub record Enters (r : Reading) (w : List ℕ) (next : ℕ) (e : ExtentTurn) : Type 0 where
-  pub passes : e.skips ≡ true → (es : List AllocExtent) → extents_feed r.mount (extent_in w ∷ es) r.missing ≡ extents_feed r.mount es r.missing
-  pub stands : e.skips ≡ false → (row : List (List ℕ))
-      → ReadingStands row (extents_feed r.mount (extent_in w ∷ drop next (extents_in row r.scan.listed)) r.missing) r e.reading
+abbrev pub Enters : Reading → List ℕ → ℕ → Option Reading → Type 0
+Enters r w next None = (es : List AllocExtent) → extents_feed r.mount (extent_in w ∷ es) r.missing ≡ extents_feed r.mount es r.missing
+Enters r w next (Some x) = (row : List (List ℕ)) → ReadingStands row (extents_feed r.mount (extent_in w ∷ drop next (extents_in row r.scan.listed)) r.missing) r x
 
 -- an extent from a sector on, and what follows it
-pub record EntersAt (r : Reading) (at size next : ℕ) (e : ExtentTurn) : Type 0 where
-  pub passes : e.skips ≡ true → (f : ℕ → Feed) → extent_feed (sectors_for size) at size r.missing f ≡ f r.missing
-  pub misses : e.skips ≡ true → r.missing ≡ 0 → ⊥
-  pub stands : e.skips ≡ false → (row : List (List ℕ))
-      → ReadingStands row (extent_feed (sectors_for size) at size r.missing (extents_behind r row next)) r e.reading
+pub record PassedAt (r : Reading) (at size : ℕ) : Type 0 where
+  pub passes : (f : ℕ → Feed) → extent_feed (sectors_for size) at size r.missing f ≡ f r.missing
+  pub misses : r.missing ≡ 0 → ⊥
+
+abbrev pub EntersAt : Reading → ℕ → ℕ → ℕ → Option Reading → Type 0
+EntersAt r at size next None = PassedAt r at size
+EntersAt r at size next (Some x) = (row : List (List ℕ)) → ReadingStands row (extent_feed (sectors_for size) at size r.missing (extents_behind r row next)) r x
 
 -- the continuation of an area that was accepted
 abbrev pub continuing : Mount → ℕ → ℕ → ℕ → List AllocExtent → AdContinuation → Feed

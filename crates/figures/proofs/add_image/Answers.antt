@@ -7,4 +7,4 @@ pub returns-then-place-ne-PLACE : goal.returns-then-place-ne-PLACE
 returns-then-place-ne-PLACE c = no-image c.if-place-ne-PLACE.true (min c.args.answer 16)
 
 pub returns : goal.returns
-returns c = let under = c.lesser-under.ensures in rw (← under) (image-placed _ _ c.if-place-ne-PLACE.false c.add_sum.ensures)
+returns c = let under = c.min-under.ensures in rw (← under) (image-placed _ _ c.if-place-ne-PLACE.false c.add_sum.ensures)

@@ -11,8 +11,5 @@ returns-then-over-ne0 c = search longers
 pub returns-then-more_over-ne0 : goal.returns-then-more_over-ne0
 returns-then-more_over-ne0 c = search longers
 
-pub greatest-requires : goal.greatest-requires
-greatest-requires c = search longers
-
 pub returns : goal.returns
 returns c = search longers

@@ -1,5 +1,5 @@
 -- What the passes over a file's extents report: for the contracts of private functions.
-use Rattle.std.specs.Prelude.{ℕ, ◌+◌, ◌≤◌, ◌≡◌, true, List, ◌++◌, length, drop}
+use Rattle.std.specs.Prelude.{ℕ, ◌+◌, ◌≤◌, ◌≡◌, true, List, ◌++◌, length, drop, Result, Ok, Err}
 use Rattle.disc.specs.Counts.{reported}
 use Rattle.disc.specs.Ask.{Outcome}
 use Rattle.disc.specs.Ask.Outcome.{answered, refused}
@@ -12,8 +12,7 @@ use Rattle.chains.specs.declared.cursors.ChainCursor.{ChainCursor}
 use Rattle.files.specs.Reads.{visited}
 use Rattle.files.specs.Inner.Pieces.{rest_at}
 use Rattle.files.specs.declared.extents.Sizes.{Sizes}
-use Rattle.files.specs.declared.extents.Measured.{Measured}
-use Rattle.files.specs.declared.extents.Measured.TheVariants.{Sized, Refused}
+use Rattle.disc.specs.declared.refusals.CountedRefusal.{CountedRefusal}
 
 -- the result of measuring: bytes and sectors, or a refusal and sectors
 pub data Came : Type 0 where
@@ -36,9 +35,9 @@ pub record SizedTo (image : List ℕ) (m : Mount) (kind : ℕ) (first : ChainCur
   pub gone : s.behind.hops + hops_at image m kind first ≡ first.hops + hops_at image m kind s.behind
   pub room : s.visits + weight s.behind ≤ weight first
 
-abbrev pub Measures : List ℕ → Mount → ℕ → ChainCursor → ℕ → Measured → Type 0
-Measures image m kind first want (Sized s) = SizedTo image m kind first want s
-Measures image m kind first want (Refused r n) = stops r n ≡ sized 0 0 (rest_at image m kind first want)
+abbrev pub Measures : List ℕ → Mount → ℕ → ChainCursor → ℕ → Result Sizes CountedRefusal → Type 0
+Measures image m kind first want (Ok s) = SizedTo image m kind first want s
+Measures image m kind first want (Err e) = stops e.why e.count ≡ sized 0 0 (rest_at image m kind first want)
 
 -- what a copy of at most `want` bytes leaves: if the read is answered, its bytes over the front; after any read, all past `want` as it came
 pub record Copied (r : Ran (List ℕ)) (want : ℕ) (before after : List ℕ) : Type 0 where

@@ -1,6 +1,5 @@
 -- What the next piece of a file is, by the tree of its extents: for the contracts of private functions.
-use Rattle.std.specs.Prelude.{ℕ, ◌+◌, ◌-◌, ◌*◌, ◌≤◌, ◌<◌, min, max, ◌≡◌, List, [], ◌∷◌, ◌++◌, length, take, drop, leb}
-use Rattle.std.proofs.Math.Option.{some}
+use Rattle.std.specs.Prelude.{ℕ, ◌+◌, ◌-◌, ◌*◌, ◌≤◌, ◌<◌, min, max, ◌≡◌, List, [], ◌∷◌, ◌++◌, length, take, drop, leb, Some, Result, Ok, Err}
 use Rattle.disc.specs.Choice.{pick}
 use Rattle.disc.specs.Ask.{Outcome}
 use Rattle.disc.specs.Ask.Outcome.{answered, refused}
@@ -13,10 +12,10 @@ use Rattle.areas.specs.declared.AllocExtent.{AllocExtent}
 use Rattle.chains.specs.Inner.Walks.{left, hops_at, weight}
 use Rattle.chains.specs.declared.cursors.ChainCursor.{ChainCursor}
 use Rattle.files.specs.Reads.{extents_bytes, visited}
-use Rattle.files.specs.declared.pieces.Piece.{Piece}
-use Rattle.files.specs.declared.pieces.Piece.TheVariants.{Held, Refused}
 use Rattle.files.specs.declared.pieces.Turn.{Turn}
 use Rattle.files.specs.declared.pieces.Turn.TheVariants.{Piece as APiece, Hop, Refused as Stopped, End}
+use Rattle.files.specs.declared.pieces.Piece.{Piece}
+use Rattle.disc.specs.declared.refusals.CountedRefusal.{CountedRefusal}
 
 -- how many sectors of an extent of `size` bytes are read for `want` bytes
 abbrev pub sectors_read : ℕ → ℕ → ℕ
@@ -47,17 +46,17 @@ pub record Lies (image : List ℕ) (from k want : ℕ) : Type 0 where
   pub within : k ≤ length image - from
 
 -- an extent of `size` bytes from a sector on, by one division
-abbrev pub weighed_at : List ℕ → ℕ → ℕ → ℕ → Piece
+abbrev pub weighed_at : List ℕ → ℕ → ℕ → ℕ → Result Piece CountedRefusal
 weighed_at image s size want =
     pick (leb (sectors_read size want) (held_from image s))
-    (Held (2048 * s) (sectors_read size want) (min size want))
-    (Refused Io (held_from image s + 1))
+    (Ok (record { from = (2048 * s); sectors = (sectors_read size want); bytes = (min size want) }))
+    (Err (record { why = Io; count = (held_from image s + 1) }))
 
 -- the extent is recorded and in a partition of this volume, and the sectors to be read of it are there
 pub record There (image : List ℕ) (m : Mount) (e : AllocExtent) (want : ℕ) : Type 0 where
   pub at : ℕ
   pub recorded : e.extent_type ≡ 0
-  pub stands : placed m e.partition_ref e.block.0 ≡ some at
+  pub stands : placed m e.partition_ref e.block.0 ≡ Some at
   pub held : sectors_read e.length want ≤ held_from image at
 
 pub record HeldPiece (image : List ℕ) (m : Mount) (e : AllocExtent) (want from n k : ℕ) : Type 0 where
@@ -68,9 +67,9 @@ pub record HeldPiece (image : List ℕ) (m : Mount) (e : AllocExtent) (want from
   pub place : from ≡ 2048 * there.at
   pub sectors : n ≡ sectors_read e.length want
 
-abbrev pub Weighed : List ℕ → Mount → AllocExtent → ℕ → Piece → Type 0
-Weighed image m e want (Held from n k) = HeldPiece image m e want from n k
-Weighed image m e want (Refused r n) = (es : List AllocExtent) → rest_of image m (e ∷ es) want ≡ record { outcome = refused r; count = n }
+abbrev pub Weighed : List ℕ → Mount → AllocExtent → ℕ → Result Piece CountedRefusal → Type 0
+Weighed image m e want (Ok x) = HeldPiece image m e want x.from x.sectors x.bytes
+Weighed image m e want (Err e') = (es : List AllocExtent) → rest_of image m (e ∷ es) want ≡ record { outcome = refused e'.why; count = e'.count }
 
 -- a turn of a walk: one extent is begun, and the number of areas followed in all stays the same
 pub record PieceTurn (image : List ℕ) (m : Mount) (kind : ℕ) (c : ChainCursor) (want from n k : ℕ) (c' : ChainCursor) : Type 0 where

@@ -1,5 +1,5 @@
 -- What the parts of a call come to on an image: for the contracts of private functions.
-use Rattle.std.specs.Prelude.{ℕ, ◌+◌, ◌*◌, ◌≤◌, min, ◌≡◌, Bool, List, length, take, drop}
+use Rattle.std.specs.Prelude.{ℕ, ◌+◌, ◌*◌, ◌≤◌, min, ◌≡◌, Bool, List, length, take, drop, Result, Ok, Err}
 use Rattle.disc.specs.Ask.{Ask}
 use Rattle.disc.specs.Ask.Outcome.{answered, refused}
 use Rattle.disc.specs.Ran.{Ran, ran}
@@ -9,8 +9,6 @@ use Rattle.disc.specs.declared.refusals.Refusal.{Refusal}
 use Rattle.records.specs.declared.allocations.LongAd.{LongAd}
 use Rattle.areas.specs.Areas.{area_at}
 use Rattle.entries.specs.FileEntries.{read_entry}
-use Rattle.entries.specs.declared.file_entries.EntryRead.{EntryRead}
-use Rattle.entries.specs.declared.file_entries.EntryRead.TheVariants.{Read, Refused as NoEntry}
 use Rattle.chains.specs.Chains.{most_continuations}
 use Rattle.chains.specs.Inner.Walks.{left, hops_at}
 use Rattle.chains.specs.declared.cursors.ChainCursor.{ChainCursor}
@@ -18,17 +16,17 @@ use Rattle.files.specs.Files.{Located, entry_at, entry_mount, embedded_bytes, fi
 use Rattle.files.specs.Files.File.{embedded, chained}
 use Rattle.files.specs.Inner.Places.{place_at}
 use Rattle.files.specs.declared.icbs.FilePlace.{FilePlace}
-use Rattle.files.specs.declared.icbs.PlaceRead.{PlaceRead}
-use Rattle.files.specs.declared.icbs.PlaceRead.TheVariants.{Found, Refused}
+use Rattle.entries.specs.declared.file_entries.FileEntry.{FileEntry}
+use Rattle.disc.specs.declared.refusals.CountedRefusal.{CountedRefusal}
+use Rattle.files.specs.declared.resolves.Resolved.TheVariants.{Embedded, Chained}
 use Rattle.files.specs.declared.resolves.Resolved.{Resolved}
-use Rattle.files.specs.declared.resolves.Resolved.TheVariants.{Embedded, Chained, Refused as Unresolved}
 
 -- the entry in the sector that starts at `from`
-abbrev pub read_by : ℕ → EntryRead → PlaceRead
-read_by from (NoEntry r) = Refused r 1
-read_by from (Read e) = Found (place_at from e)
+abbrev pub read_by : ℕ → Result FileEntry Refusal → Result FilePlace CountedRefusal
+read_by from (Err r) = Err (record { why = r; count = 1 })
+read_by from (Ok e) = Ok (place_at from e)
 
-unfoldable pub place_in : Bool → List ℕ → ℕ → PlaceRead
+unfoldable pub place_in : Bool → List ℕ → ℕ → Result FilePlace CountedRefusal
 place_in check s from = read_by from (read_entry check s)
 
 -- the bytes embedded in the entry
@@ -52,11 +50,11 @@ pub record FoundPlace (image : List ℕ) (t : Ask Located) (p : FilePlace) : Typ
   pub inside : p.at + p.size ≤ length image
   pub small : p.size ≤ 2048
 
-abbrev pub Finds : List ℕ → Ask Located → PlaceRead → Type 0
-Finds image t (Found p) = FoundPlace image t p
-Finds image t (Refused r n) = ran (disc image) t ≡ record { outcome = refused r; count = n }
+abbrev pub Finds : List ℕ → Ask Located → Result FilePlace CountedRefusal → Type 0
+Finds image t (Ok p) = FoundPlace image t p
+Finds image t (Err e) = ran (disc image) t ≡ record { outcome = refused e.why; count = e.count }
 
-abbrev pub Locates : List ℕ → Mount → LongAd → PlaceRead → Type 0
+abbrev pub Locates : List ℕ → Mount → LongAd → Result FilePlace CountedRefusal → Type 0
 Locates image m icb r = Finds image (entry_at m icb) r
 
 -- a file whose entry and chain were read, the chain with the mount of the entry
@@ -80,7 +78,7 @@ pub record NoFile (image : List ℕ) (m : Mount) (icb : LongAd) (r : Refusal) (n
   pub runs : ran (disc image) (file_at m icb) ≡ record { outcome = refused r; count = n }
   pub few : n ≤ 16385
 
-abbrev pub Resolves : List ℕ → Mount → LongAd → Resolved → Type 0
-Resolves image m icb (Embedded p) = EmbeddedFile image m icb p
-Resolves image m icb (Chained p n) = ChainedFile image m icb p n
-Resolves image m icb (Unresolved r n) = NoFile image m icb r n
+abbrev pub Resolves : List ℕ → Mount → LongAd → Result Resolved CountedRefusal → Type 0
+Resolves image m icb (Ok (Embedded p)) = EmbeddedFile image m icb p
+Resolves image m icb (Ok (Chained p n)) = ChainedFile image m icb p n
+Resolves image m icb (Err e) = NoFile image m icb e.why e.count

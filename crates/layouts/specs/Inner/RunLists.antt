@@ -1,5 +1,5 @@
 -- What the passes over a file's runs report: for the contracts of private functions.
-use Rattle.std.specs.Prelude.{ℕ, min, ◌≡◌, List, [], ◌∷◌}
+use Rattle.std.specs.Prelude.{ℕ, min, ◌≡◌, List, [], ◌∷◌, Result, Ok, Err}
 use Rattle.disc.specs.Ask.{Outcome}
 use Rattle.disc.specs.Ask.Outcome.{answered, refused}
 use Rattle.disc.specs.Ran.{Ran, ran, after}
@@ -18,9 +18,9 @@ use Rattle.files.specs.declared.icbs.FilePlace.{FilePlace}
 use Rattle.layouts.specs.declared.runs.Run.{Run}
 use Rattle.layouts.specs.Runs.{run_here, extents_runs}
 use Rattle.layouts.specs.Inner.Lists.{stored_of}
-use Rattle.layouts.specs.declared.runs.RunCount.{RunCount}
-use Rattle.layouts.specs.declared.runs.RunCount.TheVariants.{Counted, Refused}
 use Rattle.layouts.specs.declared.runs.Running.{Running}
+use Rattle.layouts.specs.declared.runs.RunCount.{RunCount}
+use Rattle.disc.specs.declared.refusals.CountedRefusal.{CountedRefusal}
 
 -- the run of the rest: by the extents that are left, and by a cursor
 abbrev pub runs_on : List ℕ → Mount → List AllocExtent → ℕ → Ran (List Run)
@@ -34,9 +34,9 @@ runs_in (answered rs) = rs
 runs_in (refused r) = []
 
 -- how many there are, and the sectors asked for
-abbrev pub counted_by : RunCount → Came
-counted_by (Counted n count) = comes n count
-counted_by (Refused r count) = stops r count
+abbrev pub counted_by : Result RunCount CountedRefusal → Came
+counted_by (Ok x) = comes x.runs x.count
+counted_by (Err e) = stops e.why e.count
 
 -- a listing has the first of the runs that are left, and a cursor at those after it
 pub record RunFront (image : List ℕ) (r : Run) (rest : List Run) (l : Running) : Type 0 where

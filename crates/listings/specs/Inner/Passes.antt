@@ -1,5 +1,5 @@
 -- What the passes over a directory's bytes report.
-use Rattle.std.specs.Prelude.{ℕ, ◌+◌, ◌-◌, ◌/◌, ◌%◌, ◌≤◌, ◌≡◌, Bool, true, false, ◌||◌, not, List, [], ◌∷◌, ◌++◌, length, take, drop, eqb, ltb}
+use Rattle.std.specs.Prelude.{ℕ, ◌+◌, ◌-◌, ◌/◌, ◌%◌, ◌≤◌, ◌≡◌, Bool, true, false, ◌||◌, not, List, [], ◌∷◌, ◌++◌, length, take, drop, eqb, ltb, Result, Ok, Err}
 use Rattle.disc.specs.Choice.{pick}
 use Rattle.disc.specs.Refusals.{number}
 use Rattle.disc.specs.Ask.{Outcome}
@@ -11,13 +11,11 @@ use Rattle.names.specs.Names.{Wrote}
 use Rattle.identifiers.specs.Identifiers.{name_at, name_end, next_at, bit, is_directory}
 use Rattle.identifiers.specs.Inner.Wholes.{Whole}
 use Rattle.identifiers.specs.declared.FileIdentifierDescriptor.{FileIdentifierDescriptor}
-use Rattle.identifiers.specs.declared.IdentifierRead.{IdentifierRead}
 use Rattle.listings.specs.Entries.{Entry, entry_of, entry_read, in_front, entries}
 use Rattle.listings.specs.Listings.{entry_record, records, fold_in, answers_to, unnamed}
 use Rattle.listings.specs.declared.directory_entries.EntrySeen.{EntrySeen}
 use Rattle.listings.specs.declared.directory_entries.Put.{Put}
 use Rattle.listings.specs.declared.finds.Named.{Named}
-use Rattle.listings.specs.declared.listing.ListingSize.{ListingSize}
 use Rattle.listings.specs.declared.matchings.Matching.{Matching}
 use Rattle.listings.specs.declared.matchings.Matching.TheVariants.{CaseIgnored, AsWritten, Unambiguous}
 
@@ -34,15 +32,10 @@ pub record GoodAt (check : Bool) (raw : List ℕ) (at : ℕ) (f : FileIdentifier
   pub inside : at + (f.name_at + f.name_length) ≤ length raw
   pub near : at + f.total_size ≤ length raw + 3
 
--- it is bad, and this is its number
-pub record BadAt (check : Bool) (raw : List ℕ) (at n : ℕ) : Type 0 where
-  pub why : Refusal
-  pub is : entries check (drop at raw) ≡ refused why
-  pub numbered : n ≡ number why
-
-pub record Comes (check : Bool) (raw : List ℕ) (at : ℕ) (r : IdentifierRead) : Type 0 where
-  pub good : r.answer ≡ 0 → GoodAt check raw at r.descriptor
-  pub bad : (r.answer ≡ 0 → ⊥) → BadAt check raw at r.answer
+-- it is good, or it is bad and so are all entries from there on
+abbrev pub Comes : Bool → List ℕ → ℕ → Result FileIdentifierDescriptor Refusal → Type 0
+Comes check raw at (Ok f) = GoodAt check raw at f
+Comes check raw at (Err why) = entries check (drop at raw) ≡ refused why
 
 -- ---- the entry at the front of s, looked at without checking it again
 
@@ -82,9 +75,9 @@ pub record Puts (s before after : List ℕ) (r : Put) : Type 0 where
 -- ---- all entries
 
 -- what measuring a directory's entries reports
-abbrev pub size_of_listing : Outcome (List Entry) → ListingSize
-size_of_listing (answered es) = record { answer = 0; size = length (records es) }
-size_of_listing (refused why) = record { answer = number why; size = 0 }
+abbrev pub size_of_listing : Outcome (List Entry) → Result ℕ Refusal
+size_of_listing (answered es) = Ok (length (records es))
+size_of_listing (refused why) = Err why
 
 -- no further entry can change what was found: a first match or, if it must be unambiguous, a second one
 abbrev pub settled : Matching → Named → Bool

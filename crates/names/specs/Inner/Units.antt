@@ -1,5 +1,5 @@
 -- For the private functions: the body of a d-string unit by unit, and what is found out about it first. The public contracts cite `Names` alone.
-use Rattle.std.specs.Prelude.{ℕ, ◌≤◌, ◌+◌, ◌*◌, ◌≡◌, List, [], length, get_or, take, drop, eqb}
+use Rattle.std.specs.Prelude.{ℕ, ◌≤◌, ◌+◌, ◌*◌, ◌≡◌, List, [], length, get_or, take, drop, eqb, Option, Some, None}
 use Rattle.std.proofs.lemmas.List.Edits.{sets}
 use Rattle.disc.specs.Choice.{pick}
 use Rattle.disc.specs.Ask.{Outcome}
@@ -7,8 +7,6 @@ use Rattle.disc.specs.Ask.Outcome.{answered, refused}
 use Rattle.disc.specs.declared.refusals.Refusal.TheVariants.{Malformed}
 use Rattle.names.specs.declared.dstrings.Form.{Form}
 use Rattle.names.specs.declared.dstrings.Form.TheVariants.{Empty, Units, Bad}
-use Rattle.names.specs.declared.fields.FieldLength.{FieldLength}
-use Rattle.names.specs.declared.fields.FieldLength.TheVariants.{Length, TooLong}
 use Rattle.names.specs.Names.{pairs, until_zero, surrogate, drop_surrogates, encode, utf8, name_of, name_of_field}
 
 -- ---- one unit: a byte, or two
@@ -67,16 +65,16 @@ pub record Formed (s : List ℕ) (f : Form) : Type 0 where
 -- ---- a field
 
 -- The name of a field, by the length of its d-string.
-abbrev pub front_name : FieldLength → List ℕ → Outcome (List ℕ)
-front_name (Length n) f = name_of (take n f)
-front_name TooLong f = refused Malformed
+abbrev pub front_name : Option ℕ → List ℕ → Outcome (List ℕ)
+front_name (Some n) f = name_of (take n f)
+front_name None f = refused Malformed
 
 -- What is known besides: a length is within the field.
-abbrev pub Within : FieldLength → List ℕ → Type 0
-Within (Length n) f = n ≤ length f
-Within TooLong f = Unit {0}
+abbrev pub Within : Option ℕ → List ℕ → Type 0
+Within (Some n) f = n ≤ length f
+Within None f = Unit {0}
 
 -- The field f has a d-string of the length r.
-pub record FieldMeasured (f : List ℕ) (r : FieldLength) : Type 0 where
+pub record FieldMeasured (f : List ℕ) (r : Option ℕ) : Type 0 where
   pub name : name_of_field f ≡ front_name r f
   pub within : Within r f

@@ -1,15 +1,9 @@
 -- `sparse::lay_runs` meets its contract: the laws of the loop. Assumes nothing.
 use borrow.Author.Rules.{rules}
-use Rattle.sparse.proofs.RunLaws.{lay-starts, run_fits, run-headed, run-within, lay-next, lay-stops, lay-ends}
+use Rattle.sparse.proofs.RunLaws.{run_fits, run-headed, run-within, lay-next, lay-stops, lay-ends}
 use Rattle.sparse.proofs.lay_runs.Goals as goal
 
-ruleset runs = (lay-starts, run_fits, run-headed, run-within, lay-next, lay-stops, lay-ends, rules)
-
-pub loop-k-init : goal.loop-k-init
-loop-k-init c = search runs
-
-pub shape_of-image-then-end-eq0 : goal.shape_of-image-then-end-eq0
-shape_of-image-then-end-eq0 c = search runs
+ruleset runs = (run_fits, run-headed, run-within, lay-next, lay-stops, lay-ends, rules)
 
 pub returns-then-end-eq0 : goal.returns-then-end-eq0
 returns-then-end-eq0 c = search runs
@@ -26,11 +20,8 @@ slice_bounds-lay-start c = search runs
 pub slice_bounds-lay-end : goal.slice_bounds-lay-end
 slice_bounds-lay-end c = search runs
 
-pub loop-k-preserved : goal.loop-k-preserved
-loop-k-preserved c = search runs
-
-pub shape_of-image : goal.shape_of-image
-shape_of-image c = search runs
+pub loop-preserved : goal.loop-preserved
+loop-preserved c = search runs
 
 pub returns : goal.returns
 returns c = search runs

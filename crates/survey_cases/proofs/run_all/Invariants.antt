@@ -1,11 +1,7 @@
--- `survey_cases::run_all` is safe and ends: each shelf stands behind the one before. Assumes nothing.
+-- `survey_cases::run_all` ends: each shelf stands behind the one before. Assumes nothing.
 use Prim.Native.Nat.{◌-◌}
-use mathlib.Core.Path.{◌≡◌}
 use lib.ListN.{length}
 use Rattle.survey_cases.proofs.run_all.Given as goal
 
-abbrev pub invariant-loop-i : goal.invariant-loop-i
-invariant-loop-i l = (length l.shelf ≡ length l.initial.shelf) × (length l.work ≡ length l.initial.work)
-
 abbrev pub decreases-loop-i : goal.decreases-loop-i
-decreases-loop-i l = length l.all - l.i
+decreases-loop-i g l = length l.all - l.i

@@ -1,13 +1,13 @@
 -- What the parts of a survey leave: for the contracts of private functions.
-use Rattle.std.specs.Prelude.{ℕ, ◌*◌, ◌≡◌, List, ◌++◌, map, length, drop}
-use Rattle.volumes.specs.declared.choices.Choice.{Choice}
+use Rattle.std.specs.Prelude.{ℕ, ◌*◌, ◌≡◌, List, ◌++◌, map, length, drop, Option}
 use Rattle.figures.specs.Figures.{rows, place}
 use Rattle.surveys.specs.Surveys.{of_image, images, surveys}
+use Rattle.volumes.specs.declared.openings.How.{How}
 
 -- the places of the images, over the front of the row
-abbrev pub EachIn : Choice → ℕ → ℕ → List ℕ → List ℕ → List ℕ → List ℕ → Type 0
+abbrev pub EachIn : Option How → ℕ → ℕ → List ℕ → List ℕ → List ℕ → List ℕ → Type 0
 EachIn how most work shelf lengths before after = after ≡ rows (map (of_image how most work) (images lengths shelf)) ++ drop (place * length lengths) before
 
 -- the whole of it, except the work space
-abbrev pub Surveys : Choice → ℕ → List ℕ → List ℕ → List ℕ → List ℕ → List ℕ → ℕ → Type 0
+abbrev pub Surveys : Option How → ℕ → List ℕ → List ℕ → List ℕ → List ℕ → List ℕ → ℕ → Type 0
 Surveys how most work shelf lengths before after answer = (answer ≡ (surveys how most shelf lengths before work).answer) × (after ≡ (surveys how most shelf lengths before work).figures)

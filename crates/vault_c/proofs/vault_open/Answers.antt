@@ -5,8 +5,8 @@ use Rattle.vault_c.proofs.vault_open.Goals as goal
 
 ruleset choices = (open_unknown, open-known, rules)
 
-pub returns-in-Unknown : goal.returns-in-Unknown
-returns-in-Unknown c = search choices
+pub returns-in-None : goal.returns-in-None
+returns-in-None c = search choices
 
-pub returns-in-Known : goal.returns-in-Known
-returns-in-Known c = search choices
+pub returns-in-Some : goal.returns-in-Some
+returns-in-Some c = search choices

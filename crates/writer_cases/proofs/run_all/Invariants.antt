@@ -1,11 +1,7 @@
--- `writer_cases::run_all` is safe and ends: each case stands behind the one before. Assumes nothing.
+-- `writer_cases::run_all` ends: each case stands behind the one before. Assumes nothing.
 use Prim.Native.Nat.{◌-◌}
-use mathlib.Core.Path.{◌≡◌}
 use lib.ListN.{length}
 use Rattle.writer_cases.proofs.run_all.Given as goal
 
-abbrev pub invariant-loop-i : goal.invariant-loop-i
-invariant-loop-i l = (length l.image ≡ length l.initial.image) × (length l.out ≡ length l.initial.out) × (length l.work ≡ length l.initial.work)
-
 abbrev pub decreases-loop-i : goal.decreases-loop-i
-decreases-loop-i l = length l.all - l.i
+decreases-loop-i g l = length l.all - l.i

@@ -1,21 +1,13 @@
 -- `writers::are_files` meets its contract: each return is a case of `good_files`. Assumes nothing.
-use borrow.Author.Rules.{rules}
+use Rattle.std.proofs.Common.{rules}
 use Rattle.writers.proofs.CallLaws.{files-many, files-unlike, files-short}
 use Rattle.writers.proofs.are_files.Goals as goal
+use Rattle.writers.proofs.are_files.Goals.{then-count-le64, else-count-le64}
 
 ruleset own = (files-many, files-unlike, files-short, rules)
 
-pub count_of-count-requires : goal.count_of-count-requires
-count_of-count-requires c = search own
-
-pub returns-then-count-gt64 : goal.returns-then-count-gt64
-returns-then-count-gt64 c = search own
-
 pub returns-then-count-lengths : goal.returns-then-count-lengths
-returns-then-count-lengths c = search own
+returns-then-count-lengths c = elim c.if-count-le64.branch [ then-count-le64 w ↦ search own | else-count-le64 w ↦ search own ]
 
-pub are_short-requires : goal.are_short-requires
-are_short-requires c = search own
-
-pub returns : goal.returns
-returns c = search own
+pub returns-else-count-lengths : goal.returns-else-count-lengths
+returns-else-count-lengths c = elim c.if-count-le64.branch [ then-count-le64 w ↦ search own | else-count-le64 w ↦ search own ]

@@ -1,6 +1,5 @@
 -- Bytes poured into what is lent, at a place that only rises.
-use Rattle.std.specs.Prelude.{ℕ, ◌+◌, ◌-◌, ◌*◌, ◌<◌, ◌≤◌, ◌^◌, ◌≡◌, true, List, ◌∷◌, ◌++◌, length, drop}
-use Rattle.names.specs.Names.{until_zero}
+use Rattle.std.specs.Prelude.{ℕ, ◌+◌, ◌-◌, ◌*◌, ◌<◌, ◌≤◌, ◌^◌, ◌≡◌, true, List, ◌∷◌, ◌++◌, length}
 use Rattle.disc.specs.Images.{sectors_for}
 use Rattle.records.specs.Bytes.{le16, le32}
 use Rattle.std.proofs.lemmas.List.Edits.{sets}
@@ -36,18 +35,6 @@ long_body block name = le16 1 ++ 0 ∷ length (8 ∷ name) ∷ long_at block ++ 
 -- what stands before the files
 abbrev pub head : List (List ℕ) → List ℕ → ℕ → List ℕ
 head names lengths size = joined (front size (length lengths) (directory_size names)) ++ directory_part names ++ joined (entries_part lengths)
-
--- the name that starts at a place ends at r
-pub record NameEnd (names : List ℕ) (at r : ℕ) : Type 0 where
-  pub is : r ≡ at + length (until_zero (drop at names))
-  pub within : r ≤ length names
-
--- r is at most 127 bytes behind the place, and the name's end where the name has no more
-pub record NameStop (names : List ℕ) (at r : ℕ) : Type 0 where
-  pub above : at ≤ r
-  pub small : r ≤ at + 127
-  pub within : r ≤ length names
-  pub is : length (until_zero (drop at names)) ≤ 127 → NameEnd names at r
 
 -- ---- what the contents are where nothing was changed: premises of what is promised, and asked of no caller
 

@@ -5,24 +5,6 @@ use Rattle.chains.proofs.cursors.advance.Goals as goal
 
 ruleset advances = (advance-end, advance-refused, advance-takes, advance-hops, rules)
 
-pub next_ad-requires : goal.next_ad-requires
-next_ad-requires c = search advances
-
-pub enum_told-1 : goal.enum_told-1
-enum_told-1 c = search advances
-
-pub enum_told-in-Refused : goal.enum_told-in-Refused
-enum_told-in-Refused c = search advances
-
-pub enum_known-e : goal.enum_known-e
-enum_known-e c = search advances
-
-pub enum_known-a : goal.enum_known-a
-enum_known-a c = search advances
-
-pub hop-requires : goal.hop-requires
-hop-requires c = search advances
-
 pub returns-in-End : goal.returns-in-End
 returns-in-End c = search advances
 

@@ -9,8 +9,8 @@ ruleset reads = (zeros_of, all-refused, some-places, all_read_lem, rules)
 pub items_behind-behind-requires : goal.items_behind-behind-requires
 items_behind-behind-requires c = search reads
 
-pub least-requires : goal.least-requires
-least-requires c = search reads
+pub min-requires : goal.min-requires
+min-requires c = search reads
 
 pub clear-requires : goal.clear-requires
 clear-requires c = search reads
@@ -21,11 +21,11 @@ number-requires c = search reads
 pub refusal-requires : goal.refusal-requires
 refusal-requires c = search reads
 
-pub shape_of-work-then-least-behind : goal.shape_of-work-then-least-behind
-shape_of-work-then-least-behind c = search reads
+pub shape_of-work-then-min-behind : goal.shape_of-work-then-min-behind
+shape_of-work-then-min-behind c = search reads
 
-pub returns-then-least-behind : goal.returns-then-least-behind
-returns-then-least-behind c = record { answers_after = search reads; work_after = search reads }
+pub returns-then-min-behind : goal.returns-then-min-behind
+returns-then-min-behind c = record { answers_after = search reads; work_after = search reads }
 
 pub clear-requires-2 : goal.clear-requires-2
 clear-requires-2 c = search reads

@@ -5,8 +5,8 @@ use Rattle.cue_stacks.proofs.stacks.read_item.Goals as goal
 
 ruleset turns = (end-within, rules)
 
-pub least-rows-requires : goal.least-rows-requires
-least-rows-requires c = search turns
+pub min-rows-requires : goal.min-rows-requires
+min-rows-requires c = search turns
 
 pub item_end-end-requires : goal.item_end-end-requires
 item_end-end-requires c = search turns
@@ -51,4 +51,4 @@ pub shape_of-work : goal.shape_of-work
 shape_of-work c = search turns
 
 pub returns : goal.returns
-returns c = turn _ _ _ _ _ c.requires.0 c.requires.1 c.item_end-end.ensures c.read_reached-reply.ensures.replied c.put_reply.ensures.lengths_after c.put_reply.ensures.answers_after c.least-rows.ensures c.place_behind.ensures
+returns c = turn _ _ _ _ _ c.requires.0 c.requires.1 c.item_end-end.ensures c.read_reached-reply.ensures.replied c.put_reply.ensures.lengths_after c.put_reply.ensures.answers_after c.min-rows.ensures c.place_behind.ensures

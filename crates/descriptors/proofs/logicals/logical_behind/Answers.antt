@@ -1,13 +1,11 @@
--- `descriptors::logicals::logical_behind` meets its contract: the label says which case of the definition holds, and each
--- field is what the call that read it ensures. Assumes nothing.
-use borrow.Author.Rules.{rules}
+-- `descriptors::logicals::logical_behind` meets its contract: the label says which case of the definition holds, and each field is what
+-- the call that read it ensures. Assumes nothing.
+use Rattle.disc.proofs.PassLaws.{passed}
 use Rattle.descriptors.proofs.VolumeLaws.{logical-unnamed, logical-named}
 use Rattle.descriptors.proofs.logicals.logical_behind.Goals as goal
 
-ruleset logicals = (logical-unnamed, logical-named, rules)
+pub returns-in_err-field_size : goal.returns-in_err-field_size
+returns-in_err-field_size c = passed c.from_residual.ensures.1 (logical-unnamed _ _ c.field_size.ensures c.label_at-label.ensures c.in_err-field_size.was)
 
-pub returns-in-Refused : goal.returns-in-Refused
-returns-in-Refused c = search logicals
-
-pub returns-in-Size : goal.returns-in-Size
-returns-in-Size c = search logicals
+pub returns : goal.returns
+returns c = logical-named _ _ c.field_size.ensures c.label_at-label.ensures c.in_ok-field_size.was c.le32.ensures c.le32-2.ensures c.long_at.ensures c.le32-3.ensures c.le32-4.ensures c.first_maps.ensures

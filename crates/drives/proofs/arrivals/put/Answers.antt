@@ -22,9 +22,6 @@ slice_bounds-copy-end c = search puts
 pub copy-requires : goal.copy-requires
 copy-requires c = search puts
 
-pub least-requires : goal.least-requires
-least-requires c = search puts
-
 pub shape_of-out : goal.shape_of-out
 shape_of-out c = search puts
 

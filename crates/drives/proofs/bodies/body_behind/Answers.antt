@@ -7,14 +7,8 @@ ruleset parts = (part_body, rules)
 pub overflow_cast-b : goal.overflow_cast-b
 overflow_cast-b c = search parts
 
-pub least-n-requires : goal.least-n-requires
-least-n-requires c = search parts
-
 pub overflow_cast-b-2 : goal.overflow_cast-b-2
 overflow_cast-b-2 c = search parts
-
-pub least-m-requires : goal.least-m-requires
-least-m-requires c = search parts
 
 pub slice_bounds-crc_behind-count : goal.slice_bounds-crc_behind-count
 slice_bounds-crc_behind-count c = search parts

@@ -13,8 +13,8 @@ body_of-requires c = search heads
 pub enum_told-1 : goal.enum_told-1
 enum_told-1 c = search heads
 
-pub returns-in-Read : goal.returns-in-Read
-returns-in-Read c = search heads
+pub returns-in-Ok : goal.returns-in-Ok
+returns-in-Ok c = search heads
 
-pub returns-in-Refused : goal.returns-in-Refused
-returns-in-Refused c = search heads
+pub returns-in-Err : goal.returns-in-Err
+returns-in-Err c = search heads

@@ -10,9 +10,6 @@ le32-area-requires c = search heads
 pub overflow_cast-length : goal.overflow_cast-length
 overflow_cast-length c = search heads
 
-pub least-n-requires : goal.least-n-requires
-least-n-requires c = search heads
-
 pub overflow_add-end : goal.overflow_add-end
 overflow_add-end c = search heads
 

@@ -8,8 +8,5 @@ ruleset fronts = (front-none, front-some, not-true, not-false, rules)
 pub returns-then-not-headed : goal.returns-then-not-headed
 returns-then-not-headed c = search fronts
 
-pub least-requires : goal.least-requires
-least-requires c = search fronts
-
 pub returns : goal.returns
 returns c = search fronts

@@ -9,9 +9,6 @@ ruleset helds = (part_held)
 pub overflow_cast-body : goal.overflow_cast-body
 overflow_cast-body c = search parts
 
-pub least-end-requires : goal.least-end-requires
-least-end-requires c = search parts
-
 pub slice_bounds-take_bytes-count : goal.slice_bounds-take_bytes-count
 slice_bounds-take_bytes-count c = search parts
 
@@ -37,4 +34,4 @@ pub shape_of-row : goal.shape_of-row
 shape_of-row c = search parts
 
 pub returns : goal.returns
-returns c = part-lands _ _ _ _ _ _ c.requires.0 c.body_behind-behind.ensures c.least-end.ensures c.take_bytes-listed.ensures _ _ c.with_parts-x.ensures.is c.further.ensures
+returns c = part-lands _ _ _ _ _ _ c.requires.0 c.body_behind-behind.ensures c.min-end.ensures c.take_bytes-listed.ensures _ _ c.with_parts-x.ensures.is c.further.ensures

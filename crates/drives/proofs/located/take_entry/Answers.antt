@@ -25,8 +25,8 @@ enum_known-e c = search entries
 pub take_file-requires : goal.take_file-requires
 take_file-requires c = search entries
 
-pub returns-in-Refused : goal.returns-in-Refused
-returns-in-Refused c = search entries
+pub returns-in-Err : goal.returns-in-Err
+returns-in-Err c = search entries
 
 pub shape_of-row : goal.shape_of-row
 shape_of-row c = search entries
@@ -34,5 +34,5 @@ shape_of-row c = search entries
 pub shape_of-out : goal.shape_of-out
 shape_of-out c = search entries
 
-pub returns-in-Read : goal.returns-in-Read
-returns-in-Read c = search entries
+pub returns-in-Ok : goal.returns-in-Ok
+returns-in-Ok c = search entries

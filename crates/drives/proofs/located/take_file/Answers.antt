@@ -4,9 +4,6 @@ use Rattle.drives.proofs.located.take_file.Goals as goal
 
 ruleset files = (file-embedded, file-listed, rules)
 
-pub lesser-n-requires : goal.lesser-n-requires
-lesser-n-requires c = search files
-
 pub overflow_add-end : goal.overflow_add-end
 overflow_add-end c = search files
 

@@ -16,14 +16,11 @@ refused-requires c = search anchors
 pub over-requires : goal.over-requires
 over-requires c = search anchors
 
-pub enum_known-anchor-in-Read-1 : goal.enum_known-anchor-in-Read-1
-enum_known-anchor-in-Read-1 c = search anchors
-
 pub begin_sequence-requires : goal.begin_sequence-requires
 begin_sequence-requires c = search anchors
 
-pub returns-in-Refused : goal.returns-in-Refused
-returns-in-Refused c = search anchors
+pub returns-in-Err : goal.returns-in-Err
+returns-in-Err c = search anchors
 
-pub returns-in-Read : goal.returns-in-Read
-returns-in-Read c = search anchors
+pub returns-in-Ok : goal.returns-in-Ok
+returns-in-Ok c = search anchors

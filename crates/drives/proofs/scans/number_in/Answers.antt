@@ -13,8 +13,8 @@ enum_known-r c = search refs
 pub overflow_cast-result : goal.overflow_cast-result
 overflow_cast-result c = search refs
 
-pub returns-in-Unnamed : goal.returns-in-Unnamed
-returns-in-Unnamed c = search refs
+pub returns-in-None : goal.returns-in-None
+returns-in-None c = search refs
 
-pub returns-in-Named : goal.returns-in-Named
-returns-in-Named c = search refs
+pub returns-in-Some : goal.returns-in-Some
+returns-in-Some c = search refs

@@ -5,23 +5,14 @@ use Rattle.drives.proofs.scans.take_bytes.Goals as goal
 
 ruleset along = (along-starts, along-fits, along-long, along-next, along-ends, rules)
 
-pub loop-i-init : goal.loop-i-init
-loop-i-init c = search along
-
-pub bounds-bytes-i : goal.bounds-bytes-i
-bounds-bytes-i c = search along
+pub loop-b-init : goal.loop-b-init
+loop-b-init c = search along
 
 pub take_byte-s-requires : goal.take_byte-s-requires
 take_byte-s-requires c = search along
 
-pub overflow_add-i : goal.overflow_add-i
-overflow_add-i c = search along
-
-pub loop-i-smaller : goal.loop-i-smaller
-loop-i-smaller c = search along
-
-pub loop-i-preserved : goal.loop-i-preserved
-loop-i-preserved c = search along
+pub loop-b-preserved : goal.loop-b-preserved
+loop-b-preserved c = search along
 
 pub shape_of-row : goal.shape_of-row
 shape_of-row c = search along

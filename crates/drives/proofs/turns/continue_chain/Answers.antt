@@ -20,8 +20,8 @@ placed-requires c = search chains
 pub enum_told-1 : goal.enum_told-1
 enum_told-1 c = search chains
 
-pub over-requires-in-Nowhere : goal.over-requires-in-Nowhere
-over-requires-in-Nowhere c = search chains
+pub over-requires-in-None : goal.over-requires-in-None
+over-requires-in-None c = search chains
 
 pub enum_known-first : goal.enum_known-first
 enum_known-first c = search chains
@@ -29,8 +29,8 @@ enum_known-first c = search chains
 pub want_continuation-requires : goal.want_continuation-requires
 want_continuation-requires c = search chains
 
-pub returns-in-Nowhere : goal.returns-in-Nowhere
-returns-in-Nowhere c = search chains
+pub returns-in-None : goal.returns-in-None
+returns-in-None c = search chains
 
-pub returns-in-At : goal.returns-in-At
-returns-in-At c = search chains
+pub returns-in-Some : goal.returns-in-Some
+returns-in-Some c = search chains

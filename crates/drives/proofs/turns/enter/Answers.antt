@@ -8,12 +8,6 @@ ruleset enters = (enter-type, enter-nowhere, enter-there, stands-low, rules)
 pub bounds-w-1 : goal.bounds-w-1
 bounds-w-1 c = search enters
 
-pub over-requires : goal.over-requires
-over-requires c = search enters
-
-pub goes_on-requires : goal.goes_on-requires
-goes_on-requires c = search enters
-
 pub returns-then-w-ne0 : goal.returns-then-w-ne0
 returns-then-w-ne0 c = search enters
 
@@ -29,26 +23,14 @@ bounds-w-2 c = search enters
 pub placed-requires : goal.placed-requires
 placed-requires c = search enters
 
-pub enum_told-1 : goal.enum_told-1
-enum_told-1 c = search enters
-
-pub over-requires-in-Nowhere : goal.over-requires-in-Nowhere
-over-requires-in-Nowhere c = search enters
-
-pub goes_on-requires-in-Nowhere : goal.goes_on-requires-in-Nowhere
-goes_on-requires-in-Nowhere c = search enters
-
-pub enum_known-first : goal.enum_known-first
-enum_known-first c = search enters
-
 pub bounds-w-0 : goal.bounds-w-0
 bounds-w-0 c = search enters
 
 pub enter_at-requires : goal.enter_at-requires
 enter_at-requires c = search enters
 
-pub returns-in-Nowhere : goal.returns-in-Nowhere
-returns-in-Nowhere c = search enters
+pub returns-in-None : goal.returns-in-None
+returns-in-None c = search enters
 
-pub returns-in-At : goal.returns-in-At
-returns-in-At c = search enters
+pub returns-in-Some : goal.returns-in-Some
+returns-in-Some c = search enters

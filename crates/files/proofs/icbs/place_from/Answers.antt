@@ -5,17 +5,8 @@ use Rattle.files.proofs.icbs.place_from.Goals as goal
 
 ruleset places = (from-missing, locate-room, from-entry, rules)
 
-pub held_from-requires : goal.held_from-requires
-held_from-requires c = search places
-
 pub returns-then-held_from-eq0 : goal.returns-then-held_from-eq0
 returns-then-held_from-eq0 c = search places
-
-pub sector_at-requires : goal.sector_at-requires
-sector_at-requires c = search places
-
-pub overflow_mul-sector : goal.overflow_mul-sector
-overflow_mul-sector c = search places
 
 pub place_in-requires : goal.place_in-requires
 place_in-requires c = search places

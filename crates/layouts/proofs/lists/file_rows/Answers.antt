@@ -5,32 +5,8 @@ use Rattle.layouts.proofs.lists.file_rows.Goals as goal
 
 ruleset stores = (stores-start, rows-end, stores-slot, stores-long, stores-below, stores-adds, stores-next, rules)
 
-pub plan-l-requires : goal.plan-l-requires
-plan-l-requires c = search stores
-
-pub loop-i-init : goal.loop-i-init
-loop-i-init c = search stores
-
-pub offset_bounds-row-i : goal.offset_bounds-row-i
-offset_bounds-row-i c = let good = c.well_formed in search stores
-
-pub bounds-row-i : goal.bounds-row-i
-bounds-row-i c = search stores
-
-pub further-l-requires : goal.further-l-requires
-further-l-requires c = search stores
-
-pub overflow_add-i : goal.overflow_add-i
-overflow_add-i c = let good = c.well_formed in search stores
-
-pub loop-i-smaller : goal.loop-i-smaller
-loop-i-smaller c = search stores
-
 pub loop-i-preserved : goal.loop-i-preserved
 loop-i-preserved c = search stores
-
-pub shape_of-row : goal.shape_of-row
-shape_of-row c = search stores
 
 pub returns : goal.returns
 returns c = search stores

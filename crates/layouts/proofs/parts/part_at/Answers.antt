@@ -8,29 +8,17 @@ ruleset parts = (part-refused, place-refused, part_out, place_out, part_in_lem, 
 pub resolve-requires : goal.resolve-requires
 resolve-requires c = search parts
 
-pub enum_known-why : goal.enum_known-why
-enum_known-why c = search parts
-
 pub number-requires : goal.number-requires
 number-requires c = search parts
 
 pub refusal-requires : goal.refusal-requires
 refusal-requires c = search parts
 
-pub enum_known-n : goal.enum_known-n
-enum_known-n c = search parts
+pub returns-in-Err : goal.returns-in-Err
+returns-in-Err c = search parts
 
-pub enum_known-p : goal.enum_known-p
-enum_known-p c = search parts
+pub returns-in-Ok-Chained : goal.returns-in-Ok-Chained
+returns-in-Ok-Chained c = search parts
 
-pub lesser-requires : goal.lesser-requires
-lesser-requires c = search parts
-
-pub returns-in-Refused : goal.returns-in-Refused
-returns-in-Refused c = search parts
-
-pub returns-in-Chained : goal.returns-in-Chained
-returns-in-Chained c = search parts
-
-pub returns-in-Embedded : goal.returns-in-Embedded
-returns-in-Embedded c = search parts
+pub returns-in-Ok-Embedded : goal.returns-in-Ok-Embedded
+returns-in-Ok-Embedded c = search parts

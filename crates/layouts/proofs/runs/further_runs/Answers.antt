@@ -5,32 +5,11 @@ use Rattle.layouts.proofs.runs.further_runs.Goals as goal
 
 ruleset walks = (walk-starts, walk_end, walk_refused, walk-hop, walk-hop-less, walk-less, walk-cut, walk_none, walk-next, walk-found, rules)
 
-pub loop-next-init : goal.loop-next-init
-loop-next-init c = search walks
-
-pub next_piece-requires : goal.next_piece-requires
-next_piece-requires c = search walks
-
-pub enum_told-1 : goal.enum_told-1
-enum_told-1 c = search walks
-
-pub alone-requires : goal.alone-requires
-alone-requires c = search walks
-
 pub returns-in-End : goal.returns-in-End
 returns-in-End c = search walks
 
-pub enum_told-in-Refused : goal.enum_told-in-Refused
-enum_told-in-Refused c = search walks
-
-pub alone-requires-in-Refused : goal.alone-requires-in-Refused
-alone-requires-in-Refused c = search walks
-
 pub returns-in-Refused : goal.returns-in-Refused
 returns-in-Refused c = search walks
-
-pub enum_known-next : goal.enum_known-next
-enum_known-next c = search walks
 
 pub loop-next-smaller-in-Hop : goal.loop-next-smaller-in-Hop
 loop-next-smaller-in-Hop c = search walks
@@ -38,17 +17,11 @@ loop-next-smaller-in-Hop c = search walks
 pub loop-next-preserved-in-Hop : goal.loop-next-preserved-in-Hop
 loop-next-preserved-in-Hop c = search walks
 
-pub enum_known-from : goal.enum_known-from
-enum_known-from c = search walks
-
 pub overflow_sub-result : goal.overflow_sub-result
 overflow_sub-result c = search walks
 
 pub returns-then-bytes-ne0 : goal.returns-then-bytes-ne0
 returns-then-bytes-ne0 c = search walks
-
-pub alone-requires-then-want-eq0 : goal.alone-requires-then-want-eq0
-alone-requires-then-want-eq0 c = search walks
 
 pub returns-then-want-eq0 : goal.returns-then-want-eq0
 returns-then-want-eq0 c = search walks

@@ -5,8 +5,5 @@ use Rattle.listings.proofs.directory_entries.is_skipped.Goals as goal
 
 ruleset skips = (skipped-is, rules)
 
-pub is_left_out-requires : goal.is_left_out-requires
-is_left_out-requires c = search skips
-
 pub returns : goal.returns
 returns c = search skips

@@ -1,27 +1,16 @@
 -- `listings::paths::component_end` meets its contract: the bytes before the next slash, counted. Assumes nothing.
+use Prim.Native.Nat.{◌+◌}
+use mathlib.Core.Path.{◌≡◌, refl, ap, sym, ◌∙◌}
+use lib.ListN.{drop}
 use borrow.Author.Rules.{rules}
-use Rattle.listings.proofs.PathLaws.{spell_next, spell-stops, spell-ends}
+use borrow.Author.Tests.{tests}
+use Rattle.std.proofs.lemmas.Iterator.{IsFirst-from_position, YieldsList-from_slice}
+use Rattle.disc.proofs.PartLaws.{rest-by-get}
+use Rattle.listings.proofs.PathLaws.{front-counted}
 use Rattle.listings.proofs.paths.component_end.Goals as goal
 
-ruleset own = (spell_next, spell-stops, spell-ends, rules)
-
-pub loop-i-init : goal.loop-i-init
-loop-i-init c = search own
-
-pub bounds-path-i : goal.bounds-path-i
-bounds-path-i c = search own
-
-pub returns-then-path-i-eq47 : goal.returns-then-path-i-eq47
-returns-then-path-i-eq47 c = search own
-
-pub overflow_add-i : goal.overflow_add-i
-overflow_add-i c = search own
-
-pub loop-i-smaller : goal.loop-i-smaller
-loop-i-smaller c = search own
-
-pub loop-i-preserved : goal.loop-i-preserved
-loop-i-preserved c = search own
-
 pub returns : goal.returns
-returns c = search own
+returns c =
+    let rest : c.unwrap_or-rest.result.now ≡ drop c.args.at c.args.path.now = rw c.unwrap_or-rest.ensures (rest-by-get c.args.path.now c.args.at c.get.result _ refl c.get.ensures.lookup) in
+    let first = IsFirst-from_position _ _ _ (λ b. b ≡ 0x2f) (λ b. b ≡ 0x2f → ⊥) c.position.ensures.ran (YieldsList-from_slice (drop c.args.at c.args.path.now) (c.iter.ensures.rest ∙ rest)) (λ x q k. search (rules, tests)) (λ x q k. search (rules, tests)) in
+    ap (λ n. c.args.at + n) (rw (c.unwrap_or.ensures, rest) (sym (front-counted (drop c.args.at c.args.path.now) c.position.result first)))

@@ -8,8 +8,8 @@ ruleset writes = (wrote_none, wrote-full, wrote-all, rules)
 pub returns-then-out-n : goal.returns-then-out-n
 returns-then-out-n c = search writes
 
-pub returns-in-Refused : goal.returns-in-Refused
-returns-in-Refused c = search writes
+pub returns-in-Err : goal.returns-in-Err
+returns-in-Err c = search writes
 
 pub returns-else-out-n : goal.returns-else-out-n
 returns-else-out-n c = search writes

@@ -20,8 +20,8 @@ name_size-requires c = search fronts
 pub enum_told-1 : goal.enum_told-1
 enum_told-1 c = search fronts
 
-pub returns-in-Length : goal.returns-in-Length
-returns-in-Length c = search fronts
+pub returns-in-Some : goal.returns-in-Some
+returns-in-Some c = search fronts
 
-pub returns-in-TooLong : goal.returns-in-TooLong
-returns-in-TooLong c = search fronts
+pub returns-in-None : goal.returns-in-None
+returns-in-None c = search fronts

@@ -26,8 +26,8 @@ refusal-requires c = search fronts
 pub shape_of-out : goal.shape_of-out
 shape_of-out c = search fronts
 
-pub returns-in-Length : goal.returns-in-Length
-returns-in-Length c = search fronts
+pub returns-in-Some : goal.returns-in-Some
+returns-in-Some c = search fronts
 
-pub returns-in-TooLong : goal.returns-in-TooLong
-returns-in-TooLong c = search fronts
+pub returns-in-None : goal.returns-in-None
+returns-in-None c = search fronts

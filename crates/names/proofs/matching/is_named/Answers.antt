@@ -9,9 +9,6 @@ ruleset matches = (named-long, named-bad, named-empty, has_body, named-text, rul
 pub returns-then-s-gt255 : goal.returns-then-s-gt255
 returns-then-s-gt255 c = search matches
 
-pub front-n-requires : goal.front-n-requires
-front-n-requires c = search matches
-
 pub returns-in-Bad : goal.returns-in-Bad
 returns-in-Bad c = search matches
 

@@ -1,43 +1,32 @@
 -- `names::matching::is_rest` meets its contract: what is left to compare says what the whole says. Assumes nothing.
 use borrow.Author.Rules.{rules}
 use borrow.Author.Tests.{not-true, not-false}
-use Rattle.names.proofs.MatchLaws.{rest-times, rest-starts, rest-start, compare-next, compare-stop, compare-zero, compare-end}
+use Rattle.names.proofs.BodyLaws.{chunk, left-more, left-next, left-place-next, left-unit, left-end}
+use Rattle.names.proofs.MatchLaws.{compare-next, compare-stop, compare-zero, compare-end}
 use Rattle.names.proofs.matching.is_rest.Goals as goal
 
-ruleset compares = (rest-times, rest-starts, rest-start, compare-next, compare-stop, compare-zero, compare-end, not-true, not-false, rules)
-
-pub overflow_mul-i : goal.overflow_mul-i
-overflow_mul-i c = search compares
-
-pub overflow_add-i : goal.overflow_add-i
-overflow_add-i c = search compares
-
-pub loop-i-init : goal.loop-i-init
-loop-i-init c = search compares
-
-pub overflow_sub-s : goal.overflow_sub-s
-overflow_sub-s c = search compares
-
-pub unit-u-requires : goal.unit-u-requires
-unit-u-requires c = search compares
+ruleset tests = (not-true, not-false, rules)
 
 pub returns-then-u-eq0 : goal.returns-then-u-eq0
-returns-then-u-eq0 c = search compares
-
-pub match_unit-p-requires : goal.match_unit-p-requires
-match_unit-p-requires c = search compares
+returns-then-u-eq0 c =
+    let k = c.loop-bytes.invariant.left in
+    let t = chunk c.in-Some.ensures.steps.1 in
+    compare-zero c.loop-bytes.invariant.comparing (left-more k t) (left-unit k t c.requires.body.one c.requires.body.two c.unit-u.ensures) c.if-u-eq0.true
 
 pub returns-then-not-p : goal.returns-then-not-p
-returns-then-not-p c = search compares
+returns-then-not-p c =
+    let k = c.loop-bytes.invariant.left in
+    let t = chunk c.in-Some.ensures.steps.1 in
+    compare-stop c.loop-bytes.invariant.comparing (left-more k t) (left-unit k t c.requires.body.one c.requires.body.two c.unit-u.ensures) c.if-u-eq0.false c.match_unit-p.ensures (search tests)
 
-pub overflow_add-i-in-loop-i : goal.overflow_add-i-in-loop-i
-overflow_add-i-in-loop-i c = search compares
-
-pub loop-i-smaller : goal.loop-i-smaller
-loop-i-smaller c = search compares
-
-pub loop-i-preserved : goal.loop-i-preserved
-loop-i-preserved c = search compares
+pub loop-bytes-preserved : goal.loop-bytes-preserved
+loop-bytes-preserved c =
+    let k = c.loop-bytes.invariant.left in
+    let t = chunk c.in-Some.ensures.steps.1 in
+    record {
+      left = left-next k t c.in-Some.ensures.steps.0;
+      comparing = rw (left-place-next k t) at (compare-next c.loop-bytes.invariant.comparing (left-more k t) (left-unit k t c.requires.body.one c.requires.body.two c.unit-u.ensures) c.if-u-eq0.false c.match_unit-p.ensures (search tests));
+    }
 
 pub returns : goal.returns
-returns c = search compares
+returns c = compare-end c.loop-bytes.invariant.comparing (left-end c.loop-bytes.invariant.left c.in-None.ensures.steps.1.0)

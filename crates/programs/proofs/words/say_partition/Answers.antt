@@ -5,5 +5,5 @@ use Rattle.programs.proofs.words.say_partition.Goals as goal
 
 ruleset digits = (unnamed-digits, named-digits, rules)
 
-pub returns-in-Named : goal.returns-in-Named
-returns-in-Named c = search digits
+pub returns-in-Some : goal.returns-in-Some
+returns-in-Some c = search digits

@@ -15,10 +15,10 @@ returns-then-read-ne-DONE c = search opens
 pub slice_bounds-measure-end : goal.slice_bounds-measure-end
 slice_bounds-measure-end c = search opens
 
-pub returns-then-parsed-ne-DONE : goal.returns-then-parsed-ne-DONE
-returns-then-parsed-ne-DONE c = open-bad _ _ _ _ _ c.read_directory-read.ensures _ c.add_counts-count.ensures c.if-p-count.false c.if-read-ne-DONE.false
-    c.is_checked-check.ensures c.measure-parsed.ensures c.if-parsed-ne-DONE.true c.stopped-then-parsed-ne-DONE.ensures
+pub returns-in-Err : goal.returns-in-Err
+returns-in-Err c = open-bad _ _ _ _ _ c.read_directory-read.ensures _ c.add_counts-count.ensures c.if-p-count.false c.if-read-ne-DONE.false
+    c.is_checked-check.ensures c.measure.ensures c.in-Err.is c.number-in-Err.ensures c.stopped-in-Err.ensures
 
-pub returns : goal.returns
-returns c = open-good _ _ _ _ _ c.read_directory-read.ensures _ c.add_counts-count.ensures c.if-p-count.false c.if-read-ne-DONE.false
-    c.is_checked-check.ensures c.measure-parsed.ensures c.if-parsed-ne-DONE.false (reads-room c.read_directory-read.ensures) c.add_counts.ensures
+pub returns-in-Ok : goal.returns-in-Ok
+returns-in-Ok c = open-good _ _ _ _ _ c.read_directory-read.ensures _ c.add_counts-count.ensures c.if-p-count.false c.if-read-ne-DONE.false
+    c.is_checked-check.ensures c.measure.ensures c.in-Ok.is (reads-room c.read_directory-read.ensures) c.add_counts.ensures

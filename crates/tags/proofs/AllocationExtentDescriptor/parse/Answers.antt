@@ -1,12 +1,13 @@
 -- `tags::AllocationExtentDescriptor::parse` meets its contract: the gate's answer says which case of `read_aed` holds. Assumes nothing.
 use borrow.Author.Rules.{rules}
+use Rattle.disc.proofs.PassLaws.{passed}
 use Rattle.tags.proofs.HeadLaws.{aed-no, aed-yes}
 use Rattle.tags.proofs.AllocationExtentDescriptor.parse.Goals as goal
 
-ruleset headers = (aed-no, aed-yes, rules)
+ruleset headers = (passed, aed-no, aed-yes, rules)
 
-pub returns-in-Refused : goal.returns-in-Refused
-returns-in-Refused c = search headers
+pub returns : goal.returns
+returns c = search headers
 
-pub returns-in-Read : goal.returns-in-Read
-returns-in-Read c = search headers
+pub returns-in_err-t : goal.returns-in_err-t
+returns-in_err-t c = passed c.from_residual.ensures.1 (aed-no _ _ c.read_head.ensures c.in_err-t.was)

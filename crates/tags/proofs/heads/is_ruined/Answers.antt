@@ -5,8 +5,8 @@ use Rattle.tags.proofs.heads.is_ruined.Goals as goal
 
 ruleset ruins = (ruined-not, ruined-by, rules)
 
-pub returns-in-Refused : goal.returns-in-Refused
-returns-in-Refused c = search ruins
+pub returns-in-Err : goal.returns-in-Err
+returns-in-Err c = search ruins
 
-pub returns-in-Read : goal.returns-in-Read
-returns-in-Read c = search ruins
+pub returns-in-Ok : goal.returns-in-Ok
+returns-in-Ok c = search ruins

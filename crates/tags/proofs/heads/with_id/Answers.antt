@@ -8,8 +8,8 @@ ruleset ids = (id-refused, id_other, id_same, rules)
 pub returns-then-t-id : goal.returns-then-t-id
 returns-then-t-id c = search ids
 
-pub returns-in-Refused : goal.returns-in-Refused
-returns-in-Refused c = search ids
+pub returns-in_err-t : goal.returns-in_err-t
+returns-in_err-t c = search ids
 
-pub returns-else-t-id : goal.returns-else-t-id
-returns-else-t-id c = search ids
+pub returns : goal.returns
+returns c = search ids

@@ -5,20 +5,17 @@ use Rattle.volumes.proofs.openings.open_from.Goals as goal
 
 ruleset opens = (scan-few, scan-fits, anchor-not, anchor-stops, anchor-leads, rules)
 
-pub overflow_add-scanned : goal.overflow_add-scanned
-overflow_add-scanned c = search opens
-
-pub returns-then-scanned-ne-DONE : goal.returns-then-scanned-ne-DONE
-returns-then-scanned-ne-DONE c = search opens
-
-pub overflow_add-scanned-in-Read : goal.overflow_add-scanned-in-Read
-overflow_add-scanned-in-Read c = search opens
+pub overflow_add-count : goal.overflow_add-count
+overflow_add-count c = search opens
 
 pub open_kept-requires : goal.open_kept-requires
 open_kept-requires c = search opens
 
-pub returns-in-Refused : goal.returns-in-Refused
-returns-in-Refused c = search opens
+pub returns-in-Err : goal.returns-in-Err
+returns-in-Err c = search opens
 
-pub returns-else-scanned-ne-DONE : goal.returns-else-scanned-ne-DONE
-returns-else-scanned-ne-DONE c = search opens
+pub returns-in-Err-kept : goal.returns-in-Err-kept
+returns-in-Err-kept c = search opens
+
+pub returns-in-Ok-kept : goal.returns-in-Ok-kept
+returns-in-Ok-kept c = search opens

@@ -1,10 +1,6 @@
--- `volumes::sequences::scan_sequence` meets its contract: the five laws of the scan. Assumes nothing.
-use Prim.Native.Nat.{◌-◌}
+-- `volumes::sequences::scan_sequence` meets its contract: the laws of the scan. Assumes nothing.
 use Rattle.volumes.proofs.SequenceLaws.{Scanning}
 use Rattle.volumes.proofs.sequences.scan_sequence.Given as goal
 
 abbrev pub invariant-loop-i : goal.invariant-loop-i
 invariant-loop-i l = Scanning l.image l.how l.wanted l.first l.n l.kept l.i
-
-abbrev pub decreases-loop-i : goal.decreases-loop-i
-decreases-loop-i l = l.n - l.i

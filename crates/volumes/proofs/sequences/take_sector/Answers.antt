@@ -5,17 +5,17 @@ use Rattle.volumes.proofs.sequences.take_sector.Goals as goal
 
 ruleset ids = (id-primary, id-partition, id-logical, id-terminating, id_other, rules)
 
-pub returns-then-id-eq1 : goal.returns-then-id-eq1
-returns-then-id-eq1 c = search ids
+pub returns-in-1 : goal.returns-in-1
+returns-in-1 c = search ids
 
-pub returns-then-id-eq5 : goal.returns-then-id-eq5
-returns-then-id-eq5 c = search ids
+pub returns-in-5 : goal.returns-in-5
+returns-in-5 c = search ids
 
-pub returns-then-id-eq6 : goal.returns-then-id-eq6
-returns-then-id-eq6 c = search ids
+pub returns-in-6 : goal.returns-in-6
+returns-in-6 c = search ids
 
-pub returns-then-id-eq8 : goal.returns-then-id-eq8
-returns-then-id-eq8 c = search ids
+pub returns-in-8 : goal.returns-in-8
+returns-in-8 c = search ids
 
-pub returns : goal.returns
-returns c = search ids
+pub returns-in_default : goal.returns-in_default
+returns-in_default c = search ids

@@ -1,30 +1,14 @@
--- `writers::contents::are_short` meets its contract: the lengths left say what all say. Assumes nothing.
-use borrow.Author.Rules.{rules}
-use Rattle.writers.proofs.FileLaws.{short-stops, short-next, short-ends}
+-- `writers::contents::are_short` meets its contract: the test of all lengths is that of the definition. Assumes nothing.
+use Rattle.std.proofs.Common.{rules, ◌∙◌}
+use lib.Dec.{leb}
+use borrow.Author.Tests.{tests}
+use Rattle.std.proofs.lemmas.Iterator.{YieldsList-from_slice}
+use Rattle.std.proofs.lemmas.Iterator.Search.{all_from_yields_List}
+use Rattle.writers.specs.Refusing.{longest}
+use Rattle.writers.proofs.FileLaws.{short-all}
 use Rattle.writers.proofs.contents.are_short.Goals as goal
 
-ruleset own = (short-stops, short-next, short-ends, rules)
-
-pub loop-i-init : goal.loop-i-init
-loop-i-init c = search own
-
-pub offset_bounds-lengths-i : goal.offset_bounds-lengths-i
-offset_bounds-lengths-i c = search own
-
-pub bounds-lengths-i : goal.bounds-lengths-i
-bounds-lengths-i c = search own
-
-pub returns-then-lengths-i-gt-LONGEST : goal.returns-then-lengths-i-gt-LONGEST
-returns-then-lengths-i-gt-LONGEST c = search own
-
-pub overflow_add-i : goal.overflow_add-i
-overflow_add-i c = search own
-
-pub loop-i-smaller : goal.loop-i-smaller
-loop-i-smaller c = search own
-
-pub loop-i-preserved : goal.loop-i-preserved
-loop-i-preserved c = search own
-
 pub returns : goal.returns
-returns c = search own
+returns c =
+    all_from_yields_List (λ n. leb n longest) _ _ _ c.all.ensures.ran (YieldsList-from_slice c.args.lengths.now cc) (λ x b q k. search (rules, tests))
+    ∙ short-all c.args.lengths.now

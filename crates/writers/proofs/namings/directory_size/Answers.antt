@@ -1,42 +1,17 @@
--- `writers::namings::directory_size` meets its contract: what is left to add is what the names left add. Assumes nothing.
-use borrow.Author.Rules.{rules}
-use Rattle.writers.proofs.PartLaws.{size-starts, size-next, size-stops, size-ends}
+-- `writers::namings::directory_size` meets its contract: the names left add what is left. Assumes nothing.
+use Rattle.std.proofs.Common.{ap, length-append}
+use Rattle.std.proofs.lemmas.Iterator.Consumers.{YieldsList-at, YieldsList-turn, YieldsList-end}
+use Rattle.writers.proofs.PartLaws.{few-names, size-next, size-ends}
 use Rattle.writers.proofs.namings.directory_size.Goals as goal
 
-ruleset own = (size-starts, size-next, size-stops, size-ends, rules)
-
-pub loop-i-init : goal.loop-i-init
-loop-i-init c = search own
-
-pub returns-then-names-from : goal.returns-then-names-from
-returns-then-names-from c = search own
-
-pub name_stop-end-requires : goal.name_stop-end-requires
-name_stop-end-requires c = search own
-
-pub overflow_sub-size : goal.overflow_sub-size
-overflow_sub-size c = search own
-
-pub overflow_add-size : goal.overflow_add-size
-overflow_add-size c = search own
-
-pub overflow_mul-size : goal.overflow_mul-size
-overflow_mul-size c = search own
-
-pub overflow_add-size-in-loop-i : goal.overflow_add-size-in-loop-i
-overflow_add-size-in-loop-i c = search own
-
-pub overflow_add-from : goal.overflow_add-from
-overflow_add-from c = search own
-
-pub overflow_add-i : goal.overflow_add-i
-overflow_add-i c = search own
-
-pub loop-i-smaller : goal.loop-i-smaller
-loop-i-smaller c = search own
-
-pub loop-i-preserved : goal.loop-i-preserved
-loop-i-preserved c = search own
+pub loop-name-preserved : goal.loop-name-preserved
+loop-name-preserved c =
+    let road = YieldsList-at c.into_iter-name-iterator.ensures.into_iter_gives (few-names c.args.names.now (ap (λ s. s.0.now) c.take-name-items.ensures.source) c.take-name-items.ensures.count) in
+    let turn = YieldsList-turn road c.loop-name.yielded c.loop-name.name-iterator c.loop-name.yielded_by c.next.result c.next.new.self c.in-Some.name c.in-Some.is c.next.ensures.steps in
+    rw (length-append, c.identifier_size-size.ensures, c.min.ensures) (size-next c.loop-name.invariant turn.0 turn.1)
 
 pub returns : goal.returns
-returns c = search own
+returns c =
+    let road = YieldsList-at c.into_iter-name-iterator.ensures.into_iter_gives (few-names c.args.names.now (ap (λ s. s.0.now) c.take-name-items.ensures.source) c.take-name-items.ensures.count) in
+    let end = YieldsList-end road c.loop-name.yielded c.loop-name.name-iterator c.loop-name.yielded_by c.next.result c.next.new.self c.in-None.is c.next.ensures.steps in
+    size-ends c.loop-name.invariant end.1

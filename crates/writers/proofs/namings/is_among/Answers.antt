@@ -1,39 +1,14 @@
--- `writers::namings::is_among` meets its contract: the names left say what all say. Assumes nothing.
-use borrow.Author.Rules.{rules}
-use Rattle.writers.proofs.NameLaws.{among-found, among_next, among-ends}
+-- `writers::namings::is_among` meets its contract: the test of any name is that of the definition. Assumes nothing.
+use Rattle.std.proofs.Common.{rules, ◌∙◌, refl}
+use borrow.Author.Tests.{tests}
+use Rattle.std.proofs.lemmas.Iterator.Consumers.{YieldsList-from_first}
+use Rattle.std.proofs.lemmas.Iterator.Search.{any_from_yields_List}
+use Rattle.names.specs.Names.{lower, same_name}
+use Rattle.writers.specs.Refusing.{names_in}
+use Rattle.writers.proofs.NameLaws.{among-is}
 use Rattle.writers.proofs.namings.is_among.Goals as goal
 
-ruleset own = (among-found, among_next, among-ends, rules)
-
-pub loop-from-init : goal.loop-from-init
-loop-from-init c = search own
-
-pub name_end-end-requires : goal.name_end-end-requires
-name_end-end-requires c = search own
-
-pub slice_bounds-is_same-count : goal.slice_bounds-is_same-count
-slice_bounds-is_same-count c = search own
-
-pub slice_bounds-is_same-start : goal.slice_bounds-is_same-start
-slice_bounds-is_same-start c = search own
-
-pub slice_bounds-is_same-end : goal.slice_bounds-is_same-end
-slice_bounds-is_same-end c = search own
-
-pub is_same-requires : goal.is_same-requires
-is_same-requires c = search own
-
-pub returns-then-is_same : goal.returns-then-is_same
-returns-then-is_same c = search own
-
-pub overflow_add-from : goal.overflow_add-from
-overflow_add-from c = search own
-
-pub loop-from-smaller : goal.loop-from-smaller
-loop-from-smaller c = search own
-
-pub loop-from-preserved : goal.loop-from-preserved
-loop-from-preserved c = search own
-
 pub returns : goal.returns
-returns c = search own
+returns c =
+    any_from_yields_List (same_name lower c.args.name.now) c.any.new.self _ _ c.any.ensures.ran (YieldsList-from_first (λ x. x.now) (λ s. names_in s.0.now) (names_in c.args.others.now) refl) (λ x b q k. search (rules, tests))
+    ∙ among-is c.args.name.now (names_in c.args.others.now)

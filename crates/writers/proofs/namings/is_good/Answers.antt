@@ -1,37 +1,16 @@
--- `writers::namings::is_good` meets its contract: the bytes left say what all say. Assumes nothing.
-use borrow.Author.Rules.{rules}
-use borrow.Author.Tests.{not-true, not-false}
-use Rattle.writers.proofs.NameLaws.{good-empty, good-long, good-starts, good-next, good-stops, good-ends}
+-- `writers::namings::is_good` meets its contract: 1 to 127 bytes, and all plain. Assumes nothing.
+use Rattle.std.proofs.Common.{rules, ◌∙◌}
+use borrow.Author.Tests.{tests}
+use Rattle.std.proofs.lemmas.Iterator.{YieldsList-from_slice}
+use Rattle.std.proofs.lemmas.Iterator.Search.{all_from_yields_List}
+use Rattle.writers.specs.Refusing.{is_plain}
+use Rattle.writers.proofs.NameLaws.{good-is, good-not}
 use Rattle.writers.proofs.namings.is_good.Goals as goal
 
-ruleset own = (good-empty, good-long, good-starts, good-next, good-stops, good-ends, not-true, not-false, rules)
+pub returns-then-contains : goal.returns-then-contains
+returns-then-contains c =
+    all_from_yields_List is_plain _ _ _ c.all.ensures.ran (YieldsList-from_slice c.args.name.now cc) (λ x b q k. search (rules, tests))
+    ∙ good-is c.args.name.now (search (rules, tests)) (search (rules, tests))
 
-pub returns-then-name-eq0 : goal.returns-then-name-eq0
-returns-then-name-eq0 c = search own
-
-pub returns-then-name-gt127 : goal.returns-then-name-gt127
-returns-then-name-gt127 c = search own
-
-pub loop-i-init : goal.loop-i-init
-loop-i-init c = search own
-
-pub bounds-name-i : goal.bounds-name-i
-bounds-name-i c = search own
-
-pub is_plain-requires : goal.is_plain-requires
-is_plain-requires c = search own
-
-pub returns-then-not-is_plain : goal.returns-then-not-is_plain
-returns-then-not-is_plain c = search own
-
-pub overflow_add-i : goal.overflow_add-i
-overflow_add-i c = search own
-
-pub loop-i-smaller : goal.loop-i-smaller
-loop-i-smaller c = search own
-
-pub loop-i-preserved : goal.loop-i-preserved
-loop-i-preserved c = search own
-
-pub returns : goal.returns
-returns c = search own
+pub returns-else-contains : goal.returns-else-contains
+returns-else-contains c = c.if-contains.false ∙ good-not c.args.name.now (λ h. search (rules, tests))

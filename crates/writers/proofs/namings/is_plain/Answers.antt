@@ -1,20 +1,13 @@
--- `writers::namings::is_plain` meets its contract: each return is a case of `is_plain`. Assumes nothing.
-use Rattle.disc.proofs.PickLaws.{picks}
+-- `writers::namings::is_plain` meets its contract: a byte from 21 to 7E but 2F. Assumes nothing.
+use Rattle.std.proofs.Common.{arith}
+use Rattle.std.proofs.lemmas.Grind.{common_steps}
 use Rattle.writers.specs.Refusing.{is_plain}
 use Rattle.writers.proofs.namings.is_plain.Goals as goal
 
-pub returns-then-b-lt33 : goal.returns-then-b-lt33
+pub returns-then-is_ascii_graphic : goal.returns-then-is_ascii_graphic
 unfolding is_plain
-returns-then-b-lt33 c = search picks
+returns-then-is_ascii_graphic c = grind (arith, common_steps)
 
-pub returns-then-b-gt126 : goal.returns-then-b-gt126
+pub returns-else-is_ascii_graphic : goal.returns-else-is_ascii_graphic
 unfolding is_plain
-returns-then-b-gt126 c = search picks
-
-pub returns-then-b-eq47 : goal.returns-then-b-eq47
-unfolding is_plain
-returns-then-b-eq47 c = search picks
-
-pub returns : goal.returns
-unfolding is_plain
-returns c = search picks
+returns-else-is_ascii_graphic c = grind (arith, common_steps)

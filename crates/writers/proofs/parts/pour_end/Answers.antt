@@ -1,18 +1,11 @@
--- `writers::parts::pour_end` meets its contract: one part behind another. Assumes nothing.
-use borrow.Author.Rules.{rules}
+-- `writers::parts::pour_end` meets its contract: zeros, and the anchor behind them. Assumes nothing.
+use Rattle.std.proofs.Common.{rules}
+use Rattle.writers.specs.Layout.{anchor_body, anchor_at}
 use Rattle.writers.proofs.PartLaws.{end-poured}
 use Rattle.writers.proofs.parts.pour_end.Goals as goal
 
 ruleset own = (end-poured, rules)
 
-pub blank-last-requires : goal.blank-last-requires
-blank-last-requires c = search own
-
-pub anchor-requires : goal.anchor-requires
-anchor-requires c = search own
-
-pub shape_of-image : goal.shape_of-image
-shape_of-image c = search own
-
 pub returns : goal.returns
+unfolding anchor_body anchor_at
 returns c = search own

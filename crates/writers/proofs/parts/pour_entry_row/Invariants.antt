@@ -1,11 +1,6 @@
 -- `writers::parts::pour_entry_row` meets its contract: what is left to pour is what the files left are. Assumes nothing.
-use Prim.Native.Nat.{◌-◌}
-use lib.ListN.{length}
 use Rattle.writers.proofs.PartLaws.{Entering}
 use Rattle.writers.proofs.parts.pour_entry_row.Given as goal
 
 abbrev pub invariant-loop-i : goal.invariant-loop-i
 invariant-loop-i l = Entering l.lengths l.initial.image l.at l.image l.place l.block l.i
-
-abbrev pub decreases-loop-i : goal.decreases-loop-i
-decreases-loop-i l = length l.lengths - l.i

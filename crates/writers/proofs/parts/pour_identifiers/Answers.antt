@@ -1,57 +1,23 @@
 -- `writers::parts::pour_identifiers` meets its contract: what is left to pour is what the names left are. Assumes nothing.
-use borrow.Author.Rules.{rules}
-use Rattle.writers.proofs.PartLaws.{name-starts, name-next, name-stops, name-ends}
+use lib.ListN.{length, take}
+use Rattle.std.proofs.lemmas.List.FromFn.{length-enumerate_from}
+use Rattle.std.proofs.Common.{◌∙◌, ap, length-append}
+use Rattle.std.proofs.lemmas.Iterator.Consumers.{YieldsList-from_enumerate, YieldsList-at, YieldsList-turn, YieldsList-end}
+use Rattle.std.specs.Iterator.Adapters.{enumerate_source}
+use Rattle.writers.proofs.PartLaws.{first_names, few-names, numbered, name-next, name-ends}
 use Rattle.writers.proofs.parts.pour_identifiers.Goals as goal
 
-ruleset own = (name-starts, name-next, name-stops, name-ends, rules)
-
-pub loop-i-init : goal.loop-i-init
-loop-i-init c = search own
-
-pub shape_of-image-then-names-from : goal.shape_of-image-then-names-from
-shape_of-image-then-names-from c = search own
-
-pub returns-then-names-from : goal.returns-then-names-from
-returns-then-names-from c = search own
-
-pub name_stop-end-requires : goal.name_stop-end-requires
-name_stop-end-requires c = search own
-
-pub overflow_sub-o : goal.overflow_sub-o
-overflow_sub-o c = search own
-
-pub overflow_add-o : goal.overflow_add-o
-overflow_add-o c = search own
-
-pub overflow_cast-o : goal.overflow_cast-o
-overflow_cast-o c = search own
-
-pub slice_bounds-identifier-count : goal.slice_bounds-identifier-count
-slice_bounds-identifier-count c = search own
-
-pub slice_bounds-identifier-start : goal.slice_bounds-identifier-start
-slice_bounds-identifier-start c = search own
-
-pub slice_bounds-identifier-end : goal.slice_bounds-identifier-end
-slice_bounds-identifier-end c = search own
-
-pub identifier-place-requires : goal.identifier-place-requires
-identifier-place-requires c = search own
-
-pub overflow_add-i : goal.overflow_add-i
-overflow_add-i c = search own
-
-pub overflow_add-from : goal.overflow_add-from
-overflow_add-from c = search own
-
-pub loop-i-smaller : goal.loop-i-smaller
-loop-i-smaller c = search own
-
 pub loop-i-preserved : goal.loop-i-preserved
-loop-i-preserved c = search own
-
-pub shape_of-image : goal.shape_of-image
-shape_of-image c = search own
+loop-i-preserved c =
+    let few = few-names c.args.names.now (ap (λ s. s.0.now) c.take.ensures.source) c.take.ensures.count in
+    let road = YieldsList-from_enumerate {s = c.into_iter-i-iterator.result} (YieldsList-at (ap enumerate_source c.into_iter-i-iterator.ensures.into_iter_gives ∙ c.enumerate-i-items.ensures.source) few) (ap (λ s. s.count) c.into_iter-i-iterator.ensures.into_iter_gives ∙ c.enumerate-i-items.ensures.count) in
+    let turn = YieldsList-turn road c.loop-i.yielded c.loop-i.i-iterator c.loop-i.yielded_by c.next.result c.next.new.self (c.in-Some.i, c.in-Some.name) c.in-Some.is c.next.ensures.steps in
+    let one = numbered (first_names c.args.names.now) (length c.loop-i.yielded) c.in-Some.i c.in-Some.name.now turn.0 turn.1 in
+    rw length-append (name-next c.loop-i.invariant one.0 one.2 (ap (λ n. take n c.in-Some.name.now) c.min.ensures) (rw one.1 at c.identifier-place.ensures))
 
 pub returns : goal.returns
-returns c = search own
+returns c =
+    let few = few-names c.args.names.now (ap (λ s. s.0.now) c.take.ensures.source) c.take.ensures.count in
+    let road = YieldsList-from_enumerate {s = c.into_iter-i-iterator.result} (YieldsList-at (ap enumerate_source c.into_iter-i-iterator.ensures.into_iter_gives ∙ c.enumerate-i-items.ensures.source) few) (ap (λ s. s.count) c.into_iter-i-iterator.ensures.into_iter_gives ∙ c.enumerate-i-items.ensures.count) in
+    let end = YieldsList-end road c.loop-i.yielded c.loop-i.i-iterator c.loop-i.yielded_by c.next.result c.next.new.self c.in-None.is c.next.ensures.steps in
+    name-ends c.loop-i.invariant (end.1 ∙ length-enumerate_from 0 (first_names c.args.names.now))

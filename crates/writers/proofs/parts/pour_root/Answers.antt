@@ -1,24 +1,11 @@
--- `writers::parts::pour_root` meets its contract: one part behind another. Assumes nothing.
-use borrow.Author.Rules.{rules}
+-- `writers::parts::pour_root` meets its contract: one descriptor behind another, of which the constants are the bodies of the definition. Assumes nothing.
+use Rattle.std.proofs.Common.{rules}
+use Rattle.writers.specs.Layout.{file_set_body}
 use Rattle.writers.proofs.PartLaws.{root-poured}
 use Rattle.writers.proofs.parts.pour_root.Goals as goal
 
 ruleset own = (root-poured, rules)
 
-pub file_set-second-requires : goal.file_set-second-requires
-file_set-second-requires c = search own
-
-pub blank_sectors-third-requires : goal.blank_sectors-third-requires
-blank_sectors-third-requires c = search own
-
-pub root_entry-behind-requires : goal.root_entry-behind-requires
-root_entry-behind-requires c = search own
-
-pub blank_sectors-requires : goal.blank_sectors-requires
-blank_sectors-requires c = search own
-
-pub shape_of-image : goal.shape_of-image
-shape_of-image c = search own
-
 pub returns : goal.returns
+unfolding file_set_body
 returns c = search own

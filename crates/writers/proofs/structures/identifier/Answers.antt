@@ -1,5 +1,5 @@
 -- `writers::structures::identifier` meets its contract: the body is cut to the name. Assumes nothing.
-use borrow.Author.Rules.{rules}
+use Rattle.std.proofs.Common.{rules}
 use Rattle.writers.proofs.BodyLaws.{identifier-ends}
 use Rattle.writers.proofs.structures.identifier.Goals as goal
 

@@ -1,13 +1,11 @@
--- `descriptors::anchors::AnchorVolumeDescriptorPointer::parse` meets its contract: the tag that was read says which case of the definition holds, and each
--- field is what the call that read it ensures. Assumes nothing.
+-- `descriptors::anchors::AnchorVolumeDescriptorPointer::parse` meets its contract: the gate's answer says which case of the definition holds. Assumes nothing.
 use borrow.Author.Rules.{rules}
+use Rattle.disc.proofs.PassLaws.{passed}
 use Rattle.descriptors.proofs.VolumeLaws.{anchor-no, anchor-yes}
 use Rattle.descriptors.proofs.anchors.AnchorVolumeDescriptorPointer.parse.Goals as goal
 
-ruleset anchors = (anchor-no, anchor-yes, rules)
+pub returns-in_err-t : goal.returns-in_err-t
+returns-in_err-t c = passed c.from_residual.ensures.1 (anchor-no _ _ c.read_head.ensures c.in_err-t.was)
 
-pub returns-in-Refused : goal.returns-in-Refused
-returns-in-Refused c = search anchors
-
-pub returns-in-Read : goal.returns-in-Read
-returns-in-Read c = search anchors
+pub returns : goal.returns
+returns c = search (anchor-yes, rules)

@@ -5,8 +5,8 @@ use Rattle.disc.proofs.places.Mount.at_entry.Goals as goal
 
 ruleset starts = (at-foreign, at_in, rules)
 
-pub returns-in-Foreign : goal.returns-in-Foreign
-returns-in-Foreign c = search starts
+pub returns-in-None : goal.returns-in-None
+returns-in-None c = search starts
 
-pub returns-in-In : goal.returns-in-In
-returns-in-In c = search starts
+pub returns-in-Some : goal.returns-in-Some
+returns-in-Some c = search starts

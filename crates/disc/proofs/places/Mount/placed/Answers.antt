@@ -5,8 +5,8 @@ use Rattle.disc.proofs.places.Mount.placed.Goals as goal
 
 ruleset places = (place-unnamed, place-named, rules)
 
-pub returns-in-Unnamed : goal.returns-in-Unnamed
-returns-in-Unnamed c = search places
+pub returns-in-None : goal.returns-in-None
+returns-in-None c = search places
 
-pub returns-in-Named : goal.returns-in-Named
-returns-in-Named c = search places
+pub returns-in-Some : goal.returns-in-Some
+returns-in-Some c = search places

@@ -29,26 +29,20 @@ icb_placed-requires c = search starts
 pub enum_told-1 : goal.enum_told-1
 enum_told-1 c = search starts
 
-pub before-requires-in-Nowhere : goal.before-requires-in-Nowhere
-before-requires-in-Nowhere c = search starts
+pub before-requires-in-None : goal.before-requires-in-None
+before-requires-in-None c = search starts
 
-pub over-requires-in-Nowhere : goal.over-requires-in-Nowhere
-over-requires-in-Nowhere c = search starts
+pub over-requires-in-None : goal.over-requires-in-None
+over-requires-in-None c = search starts
 
 pub enum_known-sector : goal.enum_known-sector
 enum_known-sector c = search starts
 
-pub before-requires-in-At : goal.before-requires-in-At
-before-requires-in-At c = search starts
+pub before-requires-in-Some : goal.before-requires-in-Some
+before-requires-in-Some c = search starts
 
-pub shape_of-row-in-Nowhere : goal.shape_of-row-in-Nowhere
-shape_of-row-in-Nowhere c = search starts
+pub returns-in-None : goal.returns-in-None
+returns-in-None c = let z = c.clear_row.ensures in let f = c.at_entry-of_entry.ensures in let l = c.if-icb-eq0.false in let q = c.icb_placed.ensures in let b = c.before-in-None.ensures in let p = c.over-in-None.ensures in search starts
 
-pub returns-in-Nowhere : goal.returns-in-Nowhere
-returns-in-Nowhere c = let z = c.clear_row.ensures in let f = c.at_entry-of_entry.ensures in let l = c.if-icb-eq0.false in let q = c.icb_placed.ensures in let b = c.before-in-Nowhere.ensures in let p = c.over-in-Nowhere.ensures in search starts
-
-pub shape_of-row-in-At : goal.shape_of-row-in-At
-shape_of-row-in-At c = search starts
-
-pub returns-in-At : goal.returns-in-At
-returns-in-At c = let z = c.clear_row.ensures in let f = c.at_entry-of_entry.ensures in let l = c.if-icb-eq0.false in let q = c.icb_placed.ensures in let b = c.before-in-At.ensures in search starts
+pub returns-in-Some : goal.returns-in-Some
+returns-in-Some c = let z = c.clear_row.ensures in let f = c.at_entry-of_entry.ensures in let l = c.if-icb-eq0.false in let q = c.icb_placed.ensures in let b = c.before-in-Some.ensures in search starts
