@@ -1,4 +1,5 @@
 -- One item read behind those before it. Assumes nothing.
+use Rattle.std.specs.Prelude.{Some, None}
 use mathlib.Core.Path.{◌≡◌, refl, ap, sym, ◌∙◌}
 use mathlib.Core.Bool.{Bool, true, false, ◌||◌}
 use mathlib.Core.List.{List, [], ◌++◌, append-nil, append_assoc}
@@ -29,7 +30,7 @@ use Rattle.records.specs.declared.allocations.LongAd.{LongAd}
 use Rattle.listings.specs.declared.matchings.Matching.{Matching}
 use Rattle.directories.specs.Lookups.{read_path_of}
 use Rattle.cue_stacks.specs.Stacks.{item, items_behind, items, reply_in, room_left, Stack, on_top, stacked, Stacked, read_all_of}
-use Rattle.cue_stacks.specs.Inner.Turns.{is_last, place_behind, items_at, laid_at, leads_to, start, all_read, On, Enough, turns_left, Turns, Passes}
+use Rattle.cue_stacks.specs.Inner.Turns.{is_last, place_behind, items_at, laid_at, leads_to, start, all_read, Next, On, Enough, turns_left, Turns, Passes}
 use Rattle.cue_stacks.specs.declared.stacks.ItemPlace.{ItemPlace}
 use Rattle.disc.proofs.MoveLaws.{sets-front}
 use Rattle.cue_stacks.proofs.StackLaws.{reply-fits, left-long, lengths-many, answers-many}
@@ -41,11 +42,11 @@ never : false ≡ true → ⊥
 never e = let z : ◌≡◌ {A = ℕ} 0 1 = cc in omega arith
 
 module _ (bytes rows : ℕ) (p : ItemPlace) (end : ℕ) (reply : Reply) {n : ℕ} (c : n ≡ reported (p.count + reply.count)) {last : Bool} (e : last ≡ is_last bytes rows end (p.places + 1)) where
-  pub behind-last : last ≡ true → record { going = false; from = end; places = p.places + 1; filled = p.filled + reply.length; count = n } ≡ place_behind bytes rows p end reply
+  pub behind-last : last ≡ true → record { next = None; places = p.places + 1; filled = p.filled + reply.length; count = n } ≡ place_behind bytes rows p end reply
   unfolding place_behind
   behind-last h = rw (sym e, h, c)
 
-  pub behind-next : last ≡ false → record { going = true; from = end + 1; places = p.places + 1; filled = p.filled + reply.length; count = n } ≡ place_behind bytes rows p end reply
+  pub behind-next : last ≡ false → record { next = Some (end + 1); places = p.places + 1; filled = p.filled + reply.length; count = n } ≡ place_behind bytes rows p end reply
   unfolding place_behind
   behind-next h = rw (sym e, h, c)
 
@@ -82,25 +83,27 @@ fills out filled {r} {reply = reply} h e =
 
 -- ---- one turn
 
-module _ (paths : List ℕ) {p : ItemPlace} {out rows : ℕ} (g : p.going ≡ true) (o : On (length paths) out rows p) where
+module _ (paths : List ℕ) {p : ItemPlace} {out rows from : ℕ} (g : p.next ≡ Some from) (o : On (length paths) out rows p) where
+  inside : (from ≤ length paths) × (p.places < rows)
+  inside = rw g at o.next
+
   abbrev s : List ℕ
-  s = drop p.from paths
+  s = drop from paths
 
   left_is : items_at paths p ≡ items s
   unfolding items_at
   left_is = rw g
 
-  module _ {end : ℕ} (e : end ≡ p.from + length (item s)) where
+  module _ {end : ℕ} (e : end ≡ from + length (item s)) where
     pub end-within : end ≤ length paths
-    end-within = omega (arith, o.within, item-short s, length-drop p.from paths)
+    end-within = omega (arith, inside.0, item-short s, length-drop from paths)
 
     -- the place behind the item, by its parts
     record Behind (reply : Reply) (q : ItemPlace) : Type 0 where
       places : q.places ≡ p.places + 1
       filled : q.filled ≡ p.filled + reply.length
       count : q.count ≡ reported (p.count + reply.count)
-      within : q.from ≤ length paths
-      placed : q.going ≡ true → q.places < rows
+      next : Next (length paths) rows q.places q.next
       less : turns_left (length paths) q < turns_left (length paths) p
       left : Enough paths rows p → items_at paths q ≡ items_behind s
 
@@ -115,17 +118,14 @@ module _ (paths : List ℕ) {p : ItemPlace} {out rows : ℕ} (g : p.going ≡ tr
     behind reply = by (leb (length paths) end) refl (leb rows (p.places + 1)) refl
       where
         by : (t : Bool) → leb (length paths) end ≡ t → (u : Bool) → leb rows (p.places + 1) ≡ u
-            → Behind reply (pick (t || u)
-            (record { going = false; from = end; places = p.places + 1; filled = p.filled + reply.length; count = reported (p.count + reply.count) })
-            (record { going = true; from = end + 1; places = p.places + 1; filled = p.filled + reply.length; count = reported (p.count + reply.count) }))
+            → Behind reply (record { next = pick (t || u) None (Some (end + 1)); places = p.places + 1; filled = p.filled + reply.length; count = reported (p.count + reply.count) })
         by true f u k =
             let h : length paths ≤ end = leb-true (length paths) end f in
             record {
               places = refl;
               filled = refl;
               count = refl;
-              within = end-within;
-              placed = λ z. absurd (never z);
+              next = tt;
               less = rw g (omega arith);
               left = λ w. sym (behind-none s (rw length-drop (omega arith)));
             }
@@ -136,31 +136,32 @@ module _ (paths : List ℕ) {p : ItemPlace} {out rows : ℕ} (g : p.going ≡ tr
               places = refl;
               filled = refl;
               count = refl;
-              within = end-within;
-              placed = λ z. absurd (never z);
+              next = tt;
               less = rw g (omega arith);
               left = λ w. absurd (omega (arith, goes_on h w));
             }
         by false f false k =
             let h : end < length paths = leb-false (length paths) end f in
-            let l : p.from + suc (length (item s)) ≡ end + 1 = omega arith in
+            let l : from + suc (length (item s)) ≡ end + 1 = omega arith in
             record {
               places = refl;
               filled = refl;
               count = refl;
-              within = omega arith;
-              placed = λ z. leb-false rows (p.places + 1) k;
+              next = (omega arith, leb-false rows (p.places + 1) k);
               less = rw g (omega arith);
               left = λ w. sym (behind-zero s (rw length-drop (omega arith)) ∙ rw (drop-drop, l));
             }
 
 -- what the stores and the next place ask for
-module _ {bytes out : ℕ} (lengths answers : ℕ) {p : ItemPlace} (g : p.going ≡ true) (o : On bytes out (min lengths answers) p) where
+module _ {bytes out : ℕ} (lengths answers : ℕ) {p : ItemPlace} {from : ℕ} (g : p.next ≡ Some from) (o : On bytes out (min lengths answers) p) where
+  inside_rows : (from ≤ bytes) × (p.places < min lengths answers)
+  inside_rows = rw g at o.next
+
   pub put-fits : {r : Ran (List ℕ)} {before after : List ℕ} {reply : Reply} → Replied NoRoom r before after reply → (reply.answer < 2 ^ 32) × (p.places < lengths) × (p.places < answers)
-  put-fits e = (answer-fits e, omega (arith, o.placed g), omega (arith, o.placed g))
+  put-fits e = (answer-fits e, omega (arith, inside_rows.1), omega (arith, inside_rows.1))
 
   pub behind-fits : (n : ℕ) → p.filled + n ≤ out → out < 2 ^ 64 → lengths < 2 ^ 64 → (p.places + 1 < 2 ^ 64) × (p.filled + n < 2 ^ 64)
-  behind-fits n h k l = (omega (arith, o.placed g), omega arith)
+  behind-fits n h k l = (omega (arith, inside_rows.1), omega arith)
 
 -- equal by their parts
 same-stacked : {m m' n n' : ℕ} {a a' b b' c c' : List ℕ} → m ≡ m' → n ≡ n' → a ≡ a' → b ≡ b' → c ≡ c'
@@ -174,10 +175,10 @@ count-on : (a b c : ℕ) → reported (reported (a + reported b) + c) ≡ report
 count-on a b c = omega arith
 
 module _ (read : List ℕ → Ran (List ℕ)) (paths : List ℕ) {p : ItemPlace} (out lengths answers : List ℕ)
-    (g : p.going ≡ true) (o : On (length paths) (length out) (min (length lengths) (length answers)) p) {end : ℕ} (e : end ≡ p.from + length (item (drop p.from paths)))
-    {ys : List ℕ} {reply : Reply} (r : Replied NoRoom (read (take (end - p.from) (drop p.from paths))) (mid_of p.filled (length out - p.filled) out) ys reply) where
+    {from : ℕ} (g : p.next ≡ Some from) (o : On (length paths) (length out) (min (length lengths) (length answers)) p) {end : ℕ} (e : end ≡ from + length (item (drop from paths)))
+    {ys : List ℕ} {reply : Reply} (r : Replied NoRoom (read (take (end - from) (drop from paths))) (mid_of p.filled (length out - p.filled) out) ys reply) where
   abbrev t : List ℕ
-  t = drop p.from paths
+  t = drop from paths
 
   abbrev room : List ℕ
   room = drop p.filled out
@@ -188,8 +189,8 @@ module _ (read : List ℕ → Ran (List ℕ)) (paths : List ℕ) {p : ItemPlace}
   -- the item, read into all the room that is left
   replied : Replied NoRoom (read (item t)) room ys reply
   replied =
-      let a : end - p.from ≡ length (item t) = omega arith in
-      let b : take (end - p.from) t ≡ item t = rw a (item-front t) in
+      let a : end - from ≡ length (item t) = omega arith in
+      let b : take (end - from) t ≡ item t = rw a (item-front t) in
       rw (b, take_all (length out - p.filled) room room-long) at r
 
   abbrev out' : List ℕ
@@ -253,9 +254,8 @@ module _ (read : List ℕ → Ran (List ℕ)) (paths : List ℕ) {p : ItemPlace}
     pub turn : Turns read paths p out lengths answers q out' lengths' answers'
     turn = record {
       on = record {
-        within = b.within;
         room = rw b.filled (fills out p.filled o.room r);
-        placed = b.placed;
+        next = b.next;
         counted = rw b.count (omega arith);
       };
       out-long = rw (out-is, length-append, front_long, replied.leaves, left-long, length-drop) (omega (arith, o.room));
@@ -295,7 +295,7 @@ module _ (read : List ℕ → Ran (List ℕ)) (paths out₀ lengths₀ answers�
   pub read-starts : (0 < length lengths₀) × (0 < length answers₀) → Reading read paths out₀ lengths₀ answers₀ start out₀ lengths₀ answers₀
   unfolding items_at
   read-starts h = record {
-    on = record { within = omega arith; room = omega arith; placed = λ z. omega (arith, h.0, h.1); counted = omega arith };
+    on = record { room = omega arith; next = (omega arith, omega (arith, h.0, h.1)); counted = omega arith };
     out-long = refl;
     lengths-long = refl;
     answers-long = refl;
@@ -317,13 +317,13 @@ module _ (read : List ℕ → Ran (List ℕ)) (paths out₀ lengths₀ answers�
     abbrev left : Stacked
     left = record { reply = record { answer = 0; count = p.count; length = p.filled }; out = out; lengths = lengths; answers = answers }
 
-    ends_same : p.going ≡ false → PlacesEnough paths lengths₀ answers₀ → left ≡ all_read read paths out₀ lengths₀ answers₀
+    ends_same : p.next ≡ None → PlacesEnough paths lengths₀ answers₀ → left ≡ all_read read paths out₀ lengths₀ answers₀
     unfolding leads_to items_at stacked
     ends_same g h =
         let z : leads_to read paths p out lengths answers ≡ laid_at p out lengths answers (record { out = drop p.filled out; lengths = []; answers = []; count = 0; filled = 0 }) = rw g in
         same-stacked (omega (arith, i.on.counted)) (omega arith) (sym (take-append-drop p.filled out)) refl refl ∙ sym z ∙ i.same h
 
-    pub read-ends : p.going ≡ false → Passes read paths out₀ lengths₀ answers₀ left
+    pub read-ends : p.next ≡ None → Passes read paths out₀ lengths₀ answers₀ left
     read-ends g = record {
       room = rw (sym i.out-long) i.on.room;
       out-long = i.out-long;

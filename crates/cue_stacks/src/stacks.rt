@@ -1,5 +1,5 @@
 // Files read by a list of paths, each into the room that those before it left. The work space is all zero on return.
-ghost use Rattle.std.specs.Prelude.{◌≡◌, true, ◌+◌, ◌<◌, ◌^◌, min, length, set, replicate};
+ghost use Rattle.std.specs.Prelude.{◌≡◌, Some, ◌+◌, ◌<◌, ◌^◌, min, length, set, replicate};
 ghost use Rattle.disc.specs.Ran.{ran};
 ghost use Rattle.disc.specs.Images.{disc};
 ghost use Rattle.directories.specs.Lookups.{read_path_of};
@@ -17,12 +17,11 @@ use disc::replies::{Reply, refusal};
 use listings::matchings::Matching;
 use records::allocations::LongAd;
 
-// A place among the items. While `going`, the next item starts at `from`. Those before it took `places` places of the
-// rows, `filled` bytes of the output and `count` sectors.
+// A place among the items. The next item starts at `next`, and None says that there is none. Those before it took
+// `places` places of the rows, `filled` bytes of the output and `count` sectors.
 #[derive(Clone, Copy)]
 struct ItemPlace {
-    going: bool,
-    from: usize,
+    next: Option<usize>,
     places: usize,
     filled: usize,
     count: u64,
@@ -44,18 +43,13 @@ fn place_behind(bytes: usize, rows: usize, p: ItemPlace, end: usize, reply: Repl
     let places = p.places + 1;
     let filled = p.filled + reply.length as usize;
     let count = add_counts(p.count, reply.count);
-    if is_last(bytes, rows, end, places) {
-        return ItemPlace {
-            going: false,
-            from: end,
-            places,
-            filled,
-            count,
-        };
-    }
+    let next = if is_last(bytes, rows, end, places) {
+        None
+    } else {
+        Some(end + 1)
+    };
     ItemPlace {
-        going: true,
-        from: end + 1,
+        next,
         places,
         filled,
         count,
@@ -72,25 +66,26 @@ fn put_reply(reply: Reply, lengths: &mut [u64], answers: &mut [u32], i: usize)
     answers[i] = reply.answer as u32;
 }
 
-// Reads the item at the place `p` of the list `paths` into the room that is left of `out`, and stores its length and
-// its answer in the rows. `out` and the rows are those of the whole call; `work` holds one directory at a time.
+// Reads the item at the place `p` of the list `paths`, which starts at `from`, into the room that is left of `out`, and
+// stores its length and its answer in the rows. `out` and the rows are those of the whole call; `work` holds one
+// directory at a time.
 fn read_item(
     image: &[u8],
     mount: Mount,
     root: LongAd,
     paths: &[u8],
     matching: Matching,
+    from: usize,
     p: ItemPlace,
     out: &mut [u8],
     lengths: &mut [u64],
     answers: &mut [u32],
     work: &mut [u8],
 ) -> ItemPlace
-    requires { (p.going ≡ true) × On (length paths.now) (length out.old) (min (length lengths.old) (length answers.old)) p }
+    requires { (p.next ≡ Some from) × On (length paths.now) (length out.old) (min (length lengths.old) (length answers.old)) p }
     ensures { Turns (λ path. ran (disc image.now) (read_path_of matching mount (length work.old) root path)) paths.now p out.old lengths.old answers.old result out.new lengths.new answers.new }
 {
     let rows = lengths.len().min(answers.len());
-    let from = p.from;
     let filled = p.filled;
     let end = item_end(paths, from);
     let reply = read_reached(
@@ -122,17 +117,15 @@ fn read_items(
     ensures { Passes (λ path. ran (disc image.now) (read_path_of matching mount (length work.old) root path)) paths.now out.old lengths.old answers.old (record { reply = result; out = out.new; lengths = lengths.new; answers = answers.new }) }
 {
     let mut p = ItemPlace {
-        going: true,
-        from: 0,
+        next: Some(0),
         places: 0,
         filled: 0,
         count: 0,
     };
-    while p.going {
-        let q = read_item(
-            image, mount, root, paths, matching, p, out, lengths, answers, work,
+    while let Some(from) = p.next {
+        p = read_item(
+            image, mount, root, paths, matching, from, p, out, lengths, answers, work,
         );
-        p = q;
     }
     Reply {
         answer: DONE,

@@ -27,7 +27,7 @@ use Rattle.listings.specs.Paths.{Component}
 use Rattle.directories.specs.Lookups.{seek_path, icb_of, lookup_of, read_path_of, found_to, found_of, failed_of, failed_reply}
 use Rattle.directories.specs.Inner.Walks.{Walks}
 use Rattle.directories.specs.declared.lookups.Found.{Found}
-use Rattle.directories.specs.declared.walks.PathPlace.{PathPlace}
+use Rattle.directories.specs.declared.walks.PathEnd.{PathEnd}
 use Rattle.directories.proofs.PlaceLaws.{failed-stands}
 
 -- ---- a lookup, and the component that failed
@@ -37,7 +37,7 @@ module _ (d : Disc) (matching : Matching) (v : Mount) (work : ℕ) (root : LongA
   unfolding lookup_of
   look_is = ran-known d (seek_path matching v work root path) icb_of
 
-  module _ {q : PathPlace} (w : Walks d matching v work root path q) where
+  module _ {q : PathEnd} (w : Walks d matching v work root path q) where
     pub look-found : record { answer = q.answer; count = q.count; icb = q.icb } ≡ found_of (ran d (lookup_of matching v work root path))
     look-found = w.found ∙ ap found_of (sym look_is)
 
@@ -101,7 +101,7 @@ module _ (d : Disc) (matching : Matching) (v : Mount) (work : ℕ) (root : LongA
   unfolding read_path_of
   path-is = ran_then d (lookup_of matching v work root path) (λ icb. file_bytes v icb)
 
-  module _ {q : PathPlace} (w : Walks d matching v work root path q) where
+  module _ {q : PathEnd} (w : Walks d matching v work root path q) where
     pub path-refused : (q.answer ≡ 0 → ⊥) → (lent : List ℕ) {reply : Reply} → reply ≡ record { answer = q.answer; count = q.count; length = 0 }
         → Replied NoRoom (ran d (read_path_of matching v work root path)) lent lent reply
     path-refused h lent e =

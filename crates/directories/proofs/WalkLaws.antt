@@ -32,10 +32,13 @@ use Rattle.listings.proofs.PathLaws.{behind-slashes, front-is, no-more-slashes, 
 use Rattle.directories.specs.Directories.{directory_bytes}
 use Rattle.directories.specs.Lookups.{Sought, entering, or_lost, seeking, seek_path, icb_of, found_to, lost_of}
 use Rattle.directories.specs.Inner.Spaces.{reply_to, Reads}
-use Rattle.directories.specs.Inner.Walks.{entered_of, stopped_at, lost_at, beyond_of, End, end_of, leads_to, On, steps_left, Steps, Walks}
+use Rattle.directories.specs.Inner.Walks.{entered_of, stopped_at, lost_at, beyond_of, End, end_of, leads_to, On, Steps, Walks}
 use Rattle.directories.specs.declared.lookups.Found.{Found}
 use Rattle.directories.specs.declared.walks.Entered.{Entered}
 use Rattle.directories.specs.declared.walks.PathPlace.{PathPlace}
+use Rattle.directories.specs.declared.walks.PathEnd.{PathEnd}
+use Rattle.directories.specs.declared.walks.Turn.{Turn}
+use Rattle.directories.specs.declared.walks.Turn.TheVariants.{Goes, Ends}
 use Rattle.directories.proofs.SpaceLaws.{reads-count, reads_bytes}
 
 -- ---- one component
@@ -84,36 +87,28 @@ module _ (path : List ℕ) (e : ℕ) {a : ℕ} (p : a ≡ e + slashes (drop e pa
   none_left : slashes (drop a path) ≡ 0
   none_left = rw skipped (no-more-slashes (drop e path))
 
-module _ (d : Disc) (matching : Matching) (v : Mount) (work : ℕ) (path : List ℕ) {p : PathPlace} (g : p.going ≡ true) (on : On path p) {from : ℕ} (behind-it : from ≡ p.from + slashes (drop p.from path)) where
-  ahead : leads_to d matching v work path p ≡ end_of (after p.count (ran d (seeking matching v work (components_from from (drop from path)) p.icb p.directory)))
+module _ (d : Disc) (matching : Matching) (v : Mount) (work : ℕ) (path : List ℕ) {p : PathPlace} (on : On path p) {from : ℕ} (behind-it : from ≡ p.from + slashes (drop p.from path)) where
+  ahead : leads_to d matching v work path (Goes p) ≡ end_of (after p.count (ran d (seeking matching v work (components_from from (drop from path)) p.icb p.directory)))
   unfolding leads_to
-  ahead = rw (g, same-components path p.from behind-it)
-
-  far : steps_left path p ≡ 1 + (length path - p.from)
-  far = rw g
+  ahead = rw (same-components path p.from behind-it)
 
   counts : reported (p.count + 0) ≡ p.count
   counts = omega (arith, on.counted)
 
   -- an end of the walk at which a part of the path is lost
-  ends-here : (a b answer : ℕ) (icb : LongAd) (n : ℕ) → a ≤ b → b ≤ length path → n ≤ 0xffff_ffff_ffff_ffff
-      → record { found = record { answer = answer; count = n; icb = icb }; lost = record { bytes = take (b - a) (drop a path); at = a } } ≡ leads_to d matching v work path p
+  ends-here : (a b answer : ℕ) (icb : LongAd) (n : ℕ) → a ≤ b → b ≤ length path
+      → record { found = record { answer = answer; count = n; icb = icb }; lost = record { bytes = take (b - a) (drop a path); at = a } } ≡ leads_to d matching v work path (Goes p)
       → Steps d matching v work path p (stopped_at answer icb n a b)
   unfolding leads_to
-  ends-here a b answer icb n u v c s =
-      record {
-        same = s;
-        on = record { ordered = u; within = v; counted = c };
-        less = rw far (omega arith);
-      }
+  ends-here a b answer icb n h k s = record { same = s; comes = (h, k) }
 
-  pub step-arrives : length path ≤ from → {q : PathPlace}
+  pub step-arrives : length path ≤ from → {q : Turn}
       → q ≡ stopped_at 0 p.icb p.count 0 0 → Steps d matching v work path p q
   unfolding components_from front behind seeking ran outcome asked
   step-arrives h e =
       let z : drop from path ≡ [] = drop_of_length-le path h in
       rw e
-      (ends-here 0 0 0 p.icb p.count zero-le zero-le on.counted
+      (ends-here 0 0 0 p.icb p.count zero-le zero-le
       (sym (ahead ∙ rw z (both (ap (λ n. record { answer = 0; count = n; icb = p.icb }) counts) refl))))
 
   module _ (h : from < length path) {end : ℕ} (k : end ≡ from + length (front (drop from path))) where
@@ -129,11 +124,11 @@ module _ (d : Disc) (matching : Matching) (v : Mount) (work : ℕ) (path : List 
     pub component-is : take (end - from) (drop from path) ≡ front (drop from path)
     component-is = rw (k, add-sub_cancel_left) (front-is (drop from path))
 
-    pub step-dead : p.directory ≡ false → {q : PathPlace} → q ≡ lost_at p.count from end → Steps d matching v work path p q
+    pub step-dead : p.directory ≡ false → {q : Turn} → q ≡ lost_at p.count from end → Steps d matching v work path p q
     unfolding seeking ran outcome asked
     step-dead t e =
         rw e
-        (ends-here from end (number NotBluray) no_long p.count (omega (arith, further)) end-within on.counted
+        (ends-here from end (number NotBluray) no_long p.count (omega (arith, further)) end-within
         (sym (ahead ∙ rw (some_left, t, ← component-is) (both (ap (not_found (number NotBluray)) counts) refl))))
 
     module _ (t : p.directory ≡ true) where
@@ -143,35 +138,31 @@ module _ (d : Disc) (matching : Matching) (v : Mount) (work : ℕ) (path : List 
       abbrev rest : Option Entry → Ask Sought
       rest o = or_lost C o (λ e. seeking matching v work (components_from end (drop end path)) e.identifier.icb (is_directory e.identifier))
 
-      turn : leads_to d matching v work path p ≡ end_of (after p.count (followed (ran d (entering matching v work p.icb C.bytes)) (λ o. ran d (rest o))))
+      turn : leads_to d matching v work path (Goes p) ≡ end_of (after p.count (followed (ran d (entering matching v work p.icb C.bytes)) (λ o. ran d (rest o))))
       unfolding seeking
       turn = ahead ∙ rw (some_left, t, ← component-is) (ap (λ x. end_of (after p.count x)) (ran_then d (entering matching v work p.icb C.bytes) rest))
 
       -- on to the next component
       goes_on : (icb : LongAd) (directory : Bool) (n : ℕ) → n ≤ 0xffff_ffff_ffff_ffff
-          → end_of (after n (ran d (seeking matching v work (components_from end (drop end path)) icb directory))) ≡ leads_to d matching v work path p
-          → Steps d matching v work path p (record { going = true; answer = 0; icb = icb; directory = directory; count = n; from = end; end = end })
+          → end_of (after n (ran d (seeking matching v work (components_from end (drop end path)) icb directory))) ≡ leads_to d matching v work path (Goes p)
+          → Steps d matching v work path p (Goes (record { icb = icb; directory = directory; count = n; from = end }))
       unfolding leads_to
       goes_on icb directory n c s =
-          record {
-            same = s;
-            on = record { ordered = omega arith; within = end-within; counted = c };
-            less = rw far (omega (arith, further, end-within, behind-it));
-          }
+          record { same = s; comes = (omega (arith, further, behind-it), record { within = end-within; counted = c }) }
 
-      by-outcome : (o : Outcome (Option Entry)) (m : ℕ) → leads_to d matching v work path p ≡ end_of (after p.count (onward o m (λ o. ran d (rest o))))
+      by-outcome : (o : Outcome (Option Entry)) (m : ℕ) → leads_to d matching v work path (Goes p) ≡ end_of (after p.count (onward o m (λ o. ran d (rest o))))
           → Steps d matching v work path p (beyond_of (named_of o) (reported (p.count + reported m)) from end)
       unfolding beyond_of ran outcome asked
       by-outcome (answered (Some e)) m s =
           goes_on e.identifier.icb (is_directory e.identifier) _ (omega arith) (end-reported (ran d (rest (Some e))) p.count m ∙ sym s)
       by-outcome (answered None) m s =
-          ends-here from end (number NotBluray) no_long _ (omega (arith, further)) end-within (omega arith) (both (ap (not_found (number NotBluray)) (omega arith)) refl ∙ sym s)
+          ends-here from end (number NotBluray) no_long _ (omega (arith, further)) end-within (both (ap (not_found (number NotBluray)) (omega arith)) refl ∙ sym s)
       by-outcome (refused r) m s =
           simp (ne_eqb _ _ (refusal-numbered r))
-          (ends-here 0 0 (number r) no_long _ zero-le zero-le (omega arith) (both (ap (not_found (number r)) (omega arith)) refl ∙ sym s))
+          (ends-here 0 0 (number r) no_long _ zero-le zero-le (both (ap (not_found (number r)) (omega arith)) refl ∙ sym s))
 
       pub step-enters : {e : Entered} → e ≡ entered_of (ran d (entering matching v work p.icb C.bytes)) → {n : ℕ} → n ≡ reported (p.count + e.count)
-          → {q : PathPlace} → q ≡ beyond_of e.entry n from end → Steps d matching v work path p q
+          → {q : Turn} → q ≡ beyond_of e.entry n from end → Steps d matching v work path p q
       step-enters {e} x {n} y z =
           let R : Ran (Option Entry) = ran d (entering matching v work p.icb C.bytes) in
           let m : n ≡ reported (p.count + reported R.count) = y ∙ rw x in
@@ -180,38 +171,47 @@ module _ (d : Disc) (matching : Matching) (v : Mount) (work : ℕ) (path : List 
 -- the walk has come to p
 pub record Walking (d : Disc) (matching : Matching) (v : Mount) (work : ℕ) (root : LongAd) (path : List ℕ) (p : PathPlace) : Type 0 where
   pub on : On path p
-  pub same : leads_to d matching v work path p ≡ end_of (ran d (seek_path matching v work root path))
+  pub same : leads_to d matching v work path (Goes p) ≡ end_of (ran d (seek_path matching v work root path))
 
 pub walk-starts : (d : Disc) (matching : Matching) (v : Mount) (work : ℕ) (root : LongAd) (path : List ℕ)
-    → Walking d matching v work root path (record { going = true; answer = 0; icb = root; directory = true; count = 0; from = 0; end = 0 })
+    → Walking d matching v work root path (record { icb = root; directory = true; count = 0; from = 0 })
 unfolding leads_to seek_path components
 walk-starts d matching v work root path =
     record {
-      on = record { ordered = zero-le; within = zero-le; counted = zero-le };
+      on = record { within = zero-le; counted = zero-le };
       same = simp zero-add;
     }
 
-module _ {d : Disc} {matching : Matching} {v : Mount} {work : ℕ} {root : LongAd} {path : List ℕ} {p : PathPlace} (w : Walking d matching v work root path p) where
-  pub walk-next : (lent : ℕ) → lent ≡ work → {q : PathPlace} → Steps d matching v lent path p q → Walking d matching v work root path q
-  walk-next lent l s = record { on = s.on; same = (rw l at s.same) ∙ w.same }
+module _ {d : Disc} {matching : Matching} {v : Mount} {work : ℕ} {root : LongAd} {path : List ℕ} {p : PathPlace} (w : Walking d matching v work root path p)
+    (lent : ℕ) (l : lent ≡ work) {t : Turn} (s : Steps d matching v lent path p t) where
+  pub walk-next : {q : PathPlace} → t ≡ Goes q → Walking d matching v work root path q
+  walk-next {q} e =
+      let r : Steps d matching v work path p (Goes q) = rw (l, e) at s in
+      record { on = r.comes.1; same = r.same ∙ w.same }
 
-  pub walk_ends : p.going ≡ false → Walks d matching v work root path p
+  pub walk-nearer : {q : PathPlace} → t ≡ Goes q → length path - q.from < length path - p.from
+  walk-nearer {q} e =
+      let r : Steps d matching v work path p (Goes q) = rw (l, e) at s in
+      omega (arith, r.comes.0, r.comes.1.within)
+
+  pub walk_ends : {x : PathEnd} → t ≡ Ends x → Walks d matching v work root path x
   unfolding leads_to
-  walk_ends g =
-      let e = rw g at w.same in
-      record { found = ap (λ (x : End). x.found) e; lost = ap (λ (x : End). x.lost) e; ordered = w.on.ordered; within = w.on.within }
+  walk_ends {x} e =
+      let r : Steps d matching v work path p (Ends x) = rw (l, e) at s in
+      let same = r.same ∙ w.same in
+      record { found = ap (λ (x : End). x.found) same; lost = ap (λ (x : End). x.lost) same; ordered = r.comes.0; within = r.comes.1 }
 
 -- the returns of `beyond`
 module _ (e : Named) (count from end : ℕ) where
-  pub beyond-refused : (e.answer ≡ 0 → ⊥) → {l : LongAd} → l ≡ no_long → {q : PathPlace} → q ≡ stopped_at e.answer l count 0 0 → q ≡ beyond_of e count from end
+  pub beyond-refused : (e.answer ≡ 0 → ⊥) → {l : LongAd} → l ≡ no_long → {q : Turn} → q ≡ stopped_at e.answer l count 0 0 → q ≡ beyond_of e count from end
   unfolding beyond_of
   beyond-refused z n k = rw (ne_eqb e.answer 0 z, k, n)
 
   module _ (z : e.answer ≡ 0) where
-    pub beyond-lost : e.found ≡ false → {q : PathPlace} → q ≡ lost_at count from end → q ≡ beyond_of e count from end
+    pub beyond-lost : e.found ≡ false → {q : Turn} → q ≡ lost_at count from end → q ≡ beyond_of e count from end
     unfolding beyond_of
     beyond-lost h k = rw (eq-eqb e.answer 0 z, h) k
 
-    pub beyond-on : e.found ≡ true → record { going = true; answer = 0; icb = e.icb; directory = e.directory; count = count; from = end; end = end } ≡ beyond_of e count from end
+    pub beyond-on : e.found ≡ true → Goes (record { icb = e.icb; directory = e.directory; count = count; from = end }) ≡ beyond_of e count from end
     unfolding beyond_of
     beyond-on h = rw (eq-eqb e.answer 0 z, h)

@@ -1,10 +1,11 @@
 // The walk along a path, a component at a time.
-ghost use Rattle.std.specs.Prelude.{◌≡◌, true, length};
+ghost use Rattle.std.specs.Prelude.{◌≡◌, length};
 ghost use Rattle.disc.specs.Ran.{ran};
 ghost use Rattle.disc.specs.Images.{disc};
 ghost use Rattle.directories.specs.Lookups.{entering};
 ghost use Rattle.directories.specs.Inner.WorkSpaces.{read_into, path_leaves, place_leaves};
 ghost use Rattle.directories.specs.Inner.Walks.{entered_of, stopped_at, lost_at, beyond_of, On, Steps, Walks};
+ghost use Rattle.directories.specs.declared.walks.Turn.TheVariants.{Goes};
 
 use crate::spaces::read_directory;
 use disc::answers::DONE;
@@ -23,17 +24,30 @@ pub struct Entered {
     pub count: u64,
 }
 
-// A place on the walk along a path. While `going`, the first component from `from` on is looked for at `icb`. At the
-// end there is the answer, and a component that wasn't found is from `from` to `end`.
+// A place on the walk along a path: the first component from `from` on is looked for at `icb`.
 #[derive(Clone, Copy)]
 pub struct PathPlace {
-    pub going: bool,
-    pub answer: u64,
     pub icb: LongAd,
     pub directory: bool,
     pub count: u64,
     pub from: usize,
+}
+
+// The end of a walk: its answer, and a component that wasn't found is from `from` to `end`.
+#[derive(Clone, Copy)]
+pub struct PathEnd {
+    pub answer: u64,
+    pub icb: LongAd,
+    pub count: u64,
+    pub from: usize,
     pub end: usize,
+}
+
+// What a step comes to: the walk goes on from a place, or it has ended.
+#[derive(Clone, Copy)]
+pub enum Turn {
+    Goes(PathPlace),
+    Ends(PathEnd),
 }
 
 // The entry of a component in the directory at icb. The directory is read into the work space and left there.
@@ -65,29 +79,27 @@ fn enter(
 }
 
 // The end of a walk: its answer, and the place of a component that wasn't found.
-fn stopped(answer: u64, icb: LongAd, count: u64, from: usize, end: usize) -> PathPlace
+fn stopped(answer: u64, icb: LongAd, count: u64, from: usize, end: usize) -> Turn
     ensures { result ≡ stopped_at answer icb count from end }
 {
-    PathPlace {
-        going: false,
+    Turn::Ends(PathEnd {
         answer,
         icb,
-        directory: false,
         count,
         from,
         end,
-    }
+    })
 }
 
 // The end of a walk at a component that isn't there.
-fn lost(count: u64, from: usize, end: usize) -> PathPlace
+fn lost(count: u64, from: usize, end: usize) -> Turn
     ensures { result ≡ lost_at count from end }
 {
     stopped(Refusal::NotBluray.number(), no_long(), count, from, end)
 }
 
 // The place after a component whose entry was looked for, or the end of the walk there.
-fn beyond(entry: Named, count: u64, from: usize, end: usize) -> PathPlace
+fn beyond(entry: Named, count: u64, from: usize, end: usize) -> Turn
     ensures { result ≡ beyond_of entry count from end }
 {
     if entry.answer != DONE {
@@ -97,15 +109,12 @@ fn beyond(entry: Named, count: u64, from: usize, end: usize) -> PathPlace
         return lost(count, from, end);
     }
     let icb = entry.icb;
-    PathPlace {
-        going: true,
-        answer: DONE,
+    Turn::Goes(PathPlace {
         icb,
         directory: entry.directory,
         count,
         from: end,
-        end,
-    }
+    })
 }
 
 // One step of the walk. It skips slashes at its start, so it relies on nothing that an earlier step saw of the path.
@@ -116,10 +125,10 @@ fn step(
     matching: Matching,
     p: PathPlace,
     work: &mut [u8],
-) -> PathPlace
-    requires { (p.going ≡ true) × On path.now p }
+) -> Turn
+    requires { On path.now p }
     ensures steps { Steps (disc image.now) matching mount (length work.old) path.now p result }
-    ensures work_after { place_leaves (disc image.now) matching mount path.now result work.new ≡ place_leaves (disc image.now) matching mount path.now p work.old }
+    ensures work_after { place_leaves (disc image.now) matching mount path.now result work.new ≡ place_leaves (disc image.now) matching mount path.now (Goes p) work.old }
 {
     let icb = p.icb;
     let from = component_from(path, p.from);
@@ -143,22 +152,20 @@ pub(crate) fn walk(
     path: &[u8],
     matching: Matching,
     work: &mut [u8],
-) -> PathPlace
+) -> PathEnd
     ensures walks { Walks (disc image.now) matching mount (length work.old) root path.now result }
     ensures work_after { work.new ≡ path_leaves (disc image.now) matching mount root path.now work.old }
 {
     let mut p = PathPlace {
-        going: true,
-        answer: DONE,
         icb: root,
         directory: true,
         count: 0,
         from: 0,
-        end: 0,
     };
-    while p.going {
-        let q = step(image, mount, path, matching, p, work);
-        p = q;
+    loop {
+        match step(image, mount, path, matching, p, work) {
+            Turn::Goes(next) => p = next,
+            Turn::Ends(end) => return end,
+        }
     }
-    p
 }

@@ -1,4 +1,5 @@
 -- Laws of a continuation whose sectors come one at a time: what they come to is what all of them joined come to. Assumes nothing.
+use Rattle.std.specs.Prelude.{Result, Ok, Err}
 use mathlib.Core.Path.{◌≡◌, refl, ap, sym, ◌∙◌}
 use mathlib.Core.Bool.{Bool, true, false, not, ◌&&◌, ◌||◌}
 use mathlib.Core.List.{List, [], ◌∷◌, ◌++◌, append-nil, append_assoc}
@@ -55,51 +56,43 @@ module _ (check : Bool) (b : Body) where
   unfolding crc_from
   wrong-sum e z = rw (e, z)
 
-  pub judge-tag : b.tagged ≡ false → 2 ≡ judged check b
-  judge-tag e = rw e
-
-  module _ (t : b.tagged ≡ true) {w : Bool} (e : w ≡ is_wrong check b) where
-    pub judge-wrong : w ≡ true → 10 ≡ judged check b
-    judge-wrong h = rw (t, ← e, h)
-
-    pub judge-head : w ≡ false → b.headed ≡ false → 2 ≡ judged check b
-    judge-head h f = rw (t, ← e, h, f)
-
-    pub judge-good : w ≡ false → b.headed ≡ true → 0 ≡ judged check b
-    judge-good h f = rw (t, ← e, h, f)
-
-module _ (row : List (List ℕ)) (r x : Reading) {k : Bool} (c : k ≡ is_checked r.mount) {n : ℕ} (e : n ≡ judged k r.body) where
-  verdict : n ≡ judged (is_checked r.mount) r.body
+module _ (row : List (List ℕ)) (r x : Reading) {k : Bool} (c : k ≡ is_checked r.mount) {a : Result (Unit {0}) Refusal} (e : a ≡ judged k r.body) where
+  verdict : a ≡ judged (is_checked r.mount) r.body
   verdict = rw c at e
 
   abbrev chain : Feed
   chain = chain_feed r.mount r.kind r.hops r.missing (extents_in row r.scan.listed) (ending_of r.scan)
 
-  pub finish-not : (n ≡ 0 → ⊥) → Ends r n x → ReadingStands row (finished r row) r x
+  pub finish-not : {why : Refusal} → a ≡ Err why → {n : ℕ} → n ≡ number why → Ends r n x → ReadingStands row (finished r row) r x
   unfolding finished settled_in crowded
-  finish-not h p = by r.body.tagged (is_wrong (is_checked r.mount) r.body) r.body.headed verdict
+  finish-not {why} h {n} m p = by r.body.tagged (is_wrong (is_checked r.mount) r.body) r.body.headed (sym h ∙ verdict)
     where
-      ended_by : (why : Refusal) → n ≡ number why → ReadingStands row (crowded_by r.scan.full (stop why)) r x
-      ended_by why q = told r.scan.full
+      ended_by : (y : Refusal) → ◌≡◌ {A = Result (Unit {0}) Refusal} (Err why) (Err y) → ReadingStands row (crowded_by r.scan.full (stop y)) r x
+      ended_by y q = told r.scan.full
         where
-          told : (b : Bool) → ReadingStands row (pick b (stop why) (stop why)) r x
-          told true = stands-stop row (stop why) r x why (rw q at p) (λ room. refl)
-          told false = stands-stop row (stop why) r x why (rw q at p) (λ room. refl)
+          same : n ≡ number y
+          same = m ∙ ap number cc
 
-      by : (t w g : Bool) → n ≡ pick t (pick w 10 (pick g 0 2)) 2 → ReadingStands row (crowded_by r.scan.full (pick t (pick w (stop BadCrc) (pick g chain (stop Malformed))) (stop Malformed))) r x
+          told : (b : Bool) → ReadingStands row (pick b (stop y) (stop y)) r x
+          told true = stands-stop row (stop y) r x y (rw same at p) (λ room. refl)
+          told false = stands-stop row (stop y) r x y (rw same at p) (λ room. refl)
+
+      by : (t w g : Bool) → ◌≡◌ {A = Result (Unit {0}) Refusal} (Err why) (pick t (pick w (Err BadCrc) (pick g (Ok tt) (Err Malformed))) (Err Malformed))
+          → ReadingStands row (crowded_by r.scan.full (pick t (pick w (stop BadCrc) (pick g chain (stop Malformed))) (stop Malformed))) r x
       by false w g q = ended_by Malformed q
       by true true g q = ended_by BadCrc q
       by true false false q = ended_by Malformed q
-      by true false true q = absurd (h q)
+      by true false true q = absurd cc
 
-  pub finish-good : n ≡ 0 → ReadingStands row (crowded_by r.scan.full chain) r x → ReadingStands row (finished r row) r x
+  pub finish-good : {u : Unit {0}} → a ≡ Ok u → ReadingStands row (crowded_by r.scan.full chain) r x → ReadingStands row (finished r row) r x
   unfolding finished
-  finish-good h p = by r.body.tagged (is_wrong (is_checked r.mount) r.body) r.body.headed (sym verdict ∙ h)
+  finish-good {u} h p = by r.body.tagged (is_wrong (is_checked r.mount) r.body) r.body.headed (sym h ∙ verdict)
     where
-      by : (t w g : Bool) → ◌≡◌ {A = ℕ} (pick t (pick w 10 (pick g 0 2)) 2) 0 → ReadingStands row (crowded_by r.scan.full (pick t (pick w (stop BadCrc) (pick g chain (stop Malformed))) (stop Malformed))) r x
-      by false w g q = absurd (omega arith)
-      by true true g q = absurd (omega arith)
-      by true false false q = absurd (omega arith)
+      by : (t w g : Bool) → ◌≡◌ {A = Result (Unit {0}) Refusal} (Ok u) (pick t (pick w (Err BadCrc) (pick g (Ok tt) (Err Malformed))) (Err Malformed))
+          → ReadingStands row (crowded_by r.scan.full (pick t (pick w (stop BadCrc) (pick g chain (stop Malformed))) (stop Malformed))) r x
+      by false w g q = absurd cc
+      by true true g q = absurd cc
+      by true false false q = absurd cc
       by true false true q = p
 
 -- ---- the next sector, or the end

@@ -11,7 +11,7 @@ use crate::readings::{Body, Reading};
 use crate::scans::{Scan, begin, take_bytes};
 use crate::turns::{accept, over};
 use crcs::crc_behind;
-use disc::answers::{BAD_CRC, DONE, MALFORMED};
+use disc::answers::DONE;
 use disc::refusals::Refusal;
 use records::bytes::le32;
 use tags::{AED_ID, DescriptorTag};
@@ -32,31 +32,28 @@ fn is_wrong(check: bool, b: Body) -> bool
     b.summed != b.crc
 }
 
-// What its header comes to: 0, or the number of a refusal.
-fn judge(check: bool, b: Body) -> u64
+// What its header comes to.
+fn judge(check: bool, b: Body) -> Result<(), Refusal>
     ensures { result ≡ judged check b }
 {
     if !b.tagged {
-        return MALFORMED;
+        return Err(Refusal::Malformed);
     }
     if is_wrong(check, b) {
-        return BAD_CRC;
+        return Err(Refusal::BadCrc);
     }
     if !b.headed {
-        return MALFORMED;
+        return Err(Refusal::Malformed);
     }
-    DONE
+    Ok(())
 }
 
 // All sectors of the continuation have come.
 fn finish(r: Reading, row: &[[u32; 4]]) -> Reading
     ensures { ReadingStands row.now (finished r row.now) r result }
 {
-    let mount = r.mount;
-    let body = r.body;
-    let answer = judge(mount.is_checked(), body);
-    if answer != DONE {
-        return over(r, answer);
+    if let Err(why) = judge(r.mount.is_checked(), r.body) {
+        return over(r, why.number());
     }
     accept(r, row)
 }

@@ -40,7 +40,7 @@ use Rattle.files.specs.Files.{entry_mount, file_extents}
 use Rattle.files.specs.Inner.Wholes.{front_of, ChainedFile, Resolves}
 use Rattle.layouts.specs.declared.lists.Extent.{Extent}
 use Rattle.layouts.specs.declared.lists.Listing.{Listing}
-use Rattle.layouts.specs.Calls.{reference_of, extent_of, fields_of, words_of, Listed}
+use Rattle.layouts.specs.Calls.{reference_of, extent_of, Listed}
 use Rattle.layouts.specs.Inner.Lists.{stored_of, Front, ListStands, Planned, listed_run}
 use Rattle.disc.specs.Parts.{Bytes}
 use Rattle.files.specs.declared.resolves.Resolved.TheVariants.{Embedded, Chained}
@@ -244,10 +244,6 @@ pub stores-next : {A : Type 0} (f : Extent → A) (image : List ℕ) (l₀ : Lis
     → {v : A} → v ≡ f l.front → {l' : Listing} → ListStands image (left image l.mount l.kind l.behind) l.reply l' → Stores f image l₀ d₀ (set d i v) l' n (i + 1)
 stores-next f image l₀ d₀ s h e t = record { whole = λ r p. store-next f image r d₀ (s.whole r p) h e t }
 
-pub words-end : (image : List ℕ) (r : Ran (List AllocExtent)) (l₀ : Listing) (d₀ : List (List ℕ)) → Planned image r (length d₀) l₀
-    → {d : List (List ℕ)} {l : Listing} {n i : ℕ} → Stores fields_of image l₀ d₀ d l n i → n ≤ i → Listed words_of r d₀ d l.reply
-words-end image r l₀ d₀ p s h = store-ends fields_of image r d₀ (s.whole r p) h
-
-pub rows-end : (image : List ℕ) (r : Ran (List AllocExtent)) (l₀ : Listing) (d₀ : List Extent) → Planned image r (length d₀) l₀
-    → {d : List Extent} {l : Listing} {n i : ℕ} → Stores (λ e. e) image l₀ d₀ d l n i → n ≤ i → Listed extent_of r d₀ d l.reply
-rows-end image r l₀ d₀ p s h = store-ends (λ e. e) image r d₀ (s.whole r p) h
+pub slots-end : {A : Type 0} (f : Extent → A) (image : List ℕ) (r : Ran (List AllocExtent)) (l₀ : Listing) (d₀ : List A) → Planned image r (length d₀) l₀
+    → {d : List A} {l : Listing} {n i : ℕ} → Stores f image l₀ d₀ d l n i → n ≤ i → Listed (λ e. f (extent_of e)) r d₀ d l.reply
+slots-end f image r l₀ d₀ p s h = store-ends f image r d₀ (s.whole r p) h

@@ -3,8 +3,8 @@
 //
 // `plan` does all that comes before a slot is written: it resolves the file, counts its extents, and compares their number with the slots. It gives
 // a listing by value, which has the reply of the whole call and the next extent to store; `further` is the listing without its front. `file_words`
-// and `file_rows` are one loop each that stores the front, as four numbers or as a record. The laws of that loop (proofs/ListLaws.antt,
-// Storing.antt) speak of what a slot holds, so both cite the same ones. `file_runs` is built in the same way, over `plan_runs`.
+// and `file_rows` are one loop, `list_slots`, that stores the front as four numbers or as a record: what a slot holds is the trait `Slot`.
+// The laws of that loop are in proofs/ListLaws.antt. `file_runs` is built in the same way, over `plan_runs`.
 #![tactic(auto)]
 
 pub mod lists;

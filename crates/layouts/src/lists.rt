@@ -66,11 +66,30 @@ fn extent_of(e: AllocExtent) -> Extent
     }
 }
 
-// The record as four numbers.
-fn words(e: Extent) -> [u32; 4]
-    ensures { result ≡ fields_of e }
-{
-    [e.length, e.extent_type, e.block, e.partition]
+// What a slot of a lent row holds of an extent: the record itself, or its four numbers.
+trait Slot: Copy {
+    ghost use Rattle.layouts.specs.declared.lists.Extent.{Extent};
+
+    ghost slot_of: { Extent → Self };
+
+    fn of(e: Extent) -> Self
+        ensures { result ≡ slot_of e };
+}
+
+impl Slot for Extent {
+    ghost slot_of = { λ e. e };
+
+    fn of(e: Extent) -> Extent {
+        e
+    }
+}
+
+impl Slot for [u32; 4] {
+    ghost slot_of = { fields_of };
+
+    fn of(e: Extent) -> [u32; 4] {
+        [e.length, e.extent_type, e.block, e.partition]
+    }
 }
 
 // ---- the listing
@@ -185,19 +204,25 @@ fn plan(image: &[u8], mount: Mount, icb: LongAd, room: usize) -> Listing
 
 // ---- the two forms of a row
 
+// Lists the file's extents in a row of either form, one to a slot.
+fn list_slots<T: Slot>(image: &[u8], mount: Mount, icb: LongAd, row: &mut [T]) -> Reply
+    ensures { Listed (λ e. T.slot_of (extent_of e)) (ran (disc image.now) (file_extents mount icb)) row.old row.new result }
+{
+    let mut l = plan(image, mount, icb, row.len());
+    let n = l.reply.length as usize;
+    for i in 0..n {
+        row[i] = T::of(l.front);
+        l = further(image, l);
+    }
+    l.reply
+}
+
 // Lists the effective length, type, block and partition of each extent of the file's chain, four numbers to a slot.
 // An embedded file has no extents.
 pub fn file_words(image: &[u8], mount: Mount, icb: LongAd, row: &mut [[u32; 4]]) -> Reply
     ensures { Listed words_of (ran (disc image.now) (file_extents mount icb)) row.old row.new result }
 {
-    let mut l = plan(image, mount, icb, row.len());
-    let n = l.reply.length as usize;
-    for i in 0..n {
-        let front = l.front;
-        row[i] = words(front);
-        l = further(image, l);
-    }
-    l.reply
+    list_slots(image, mount, icb, row)
 }
 
 // The same in a row of records. Programs and C are lent a row of numbers (`file_words`), and both rows hold the same,
@@ -205,11 +230,5 @@ pub fn file_words(image: &[u8], mount: Mount, icb: LongAd, row: &mut [[u32; 4]])
 pub fn file_rows(image: &[u8], mount: Mount, icb: LongAd, row: &mut [Extent]) -> Reply
     ensures { Listed extent_of (ran (disc image.now) (file_extents mount icb)) row.old row.new result }
 {
-    let mut l = plan(image, mount, icb, row.len());
-    let n = l.reply.length as usize;
-    for i in 0..n {
-        row[i] = l.front;
-        l = further(image, l);
-    }
-    l.reply
+    list_slots(image, mount, icb, row)
 }

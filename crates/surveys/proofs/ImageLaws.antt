@@ -56,11 +56,11 @@ module _ (image : List ℕ) (how : Option How) (most : ℕ) {r : Opened} (q : r 
       by n (refused why) = refl
 
   -- it wants more sectors than are lent, or not
-  pub open-over : most < r.count → most < 2 ^ 64 → {t : Opened} → t ≡ record { answer = 16; count = most; volume = no_volume } → t ≡ opened_of (ran (disc image) (budgeted most (opening_by how)))
-  open-over h b e =
+  pub open-over : most < r.count → most < 2 ^ 64 → {a : ℕ} → a ≡ 16 → {t : Opened} → t ≡ record { answer = a; count = most; volume = no_volume } → t ≡ opened_of (ran (disc image) (budgeted most (opening_by how)))
+  open-over h b {a} g e =
       let c : most ≡ reported most = omega arith in
       let z : most < reported O.count = omega (arith, counted) in
-      e ∙ ap (λ n. record { answer = 16; count = n; volume = no_volume }) c ∙ sym (ap opened_of (budgeted-over (disc image) (opening_by how) most z))
+      e ∙ rw (g, ← c) refl ∙ sym (ap opened_of (budgeted-over (disc image) (opening_by how) most z))
 
   pub open-enough : r.count ≤ most → r ≡ opened_of (ran (disc image) (budgeted most (opening_by how)))
   open-enough h = q ∙ sym (ap opened_of (budgeted-same (disc image) (opening_by how) most (omega (arith, counted))))

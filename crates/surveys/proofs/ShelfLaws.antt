@@ -1,5 +1,5 @@
 -- What the loops over a shelf cite, and the whole call. Assumes nothing.
-use Rattle.std.specs.Prelude.{Option}
+use Rattle.std.specs.Prelude.{⊤, Option, Result, Ok, Err}
 use mathlib.Core.Path.{◌≡◌, refl, ap, sym, ◌∙◌}
 use mathlib.Core.Bool.{Bool, true, false, ◌&&◌}
 use mathlib.Core.List.{List, [], ◌∷◌, ◌++◌, map, append_assoc, append-nil}
@@ -15,11 +15,13 @@ use borrow.Rule.Slice.PartMut.{put_mid}
 use borrow.Author.Tests.{le-leb, lt-leb}
 use Rattle.disc.specs.Choice.{pick}
 use Rattle.disc.specs.Refusals.{number}
+use Rattle.disc.specs.declared.refusals.Refusal.{Refusal}
 use Rattle.disc.specs.declared.refusals.Refusal.TheVariants.{BadShelf}
 use Rattle.disc.proofs.ImageLaws.{split}
-use Rattle.figures.specs.Figures.{Figures, Holds, row, rows, all_added, totaled, total_answer, sum, AllWide}
-use Rattle.figures.proofs.FigureLaws.{holds-long, rows-total, rows-answer}
+use Rattle.figures.specs.Figures.{Figures, Holds, row, rows, all_added, totaled, sum, AllWide}
+use Rattle.figures.proofs.FigureLaws.{holds-long, rows-total}
 use Rattle.surveys.specs.Surveys.{Surveyed, of_image, images, with_total, surveyed, fits, surveys}
+use Rattle.surveys.specs.Inner.Parts.{room_for}
 use Rattle.surveys.proofs.ImageLaws.{image-wide}
 use Rattle.figures.specs.Figures.AllWide.{none-wide, more-wide}
 use Rattle.volumes.specs.declared.openings.How.{How}
@@ -184,7 +186,7 @@ pub rows-with-total : (fs : List Figures) → rows (with_total fs) ≡ rows fs +
 rows-with-total fs = rows_append fs (all_added fs ∷ []) ∙ rw (rows-one (all_added fs))
 
 module _ (how : Option How) (most : ℕ) (shelf lengths before work : List ℕ) where
-  no-fit : fits shelf lengths before ≡ false → (number BadShelf ≡ (surveys how most shelf lengths before work).answer) × (before ≡ (surveys how most shelf lengths before work).figures)
+  no-fit : fits shelf lengths before ≡ false → ◌≡◌ {A = Result ⊤ Refusal} (Err BadShelf) (room_for shelf lengths before) × (before ≡ (surveys how most shelf lengths before work).figures)
   no-fit e = (rw e, rw e)
 
   -- the lengths pass the shelf
@@ -198,13 +200,13 @@ module _ (how : Option How) (most : ℕ) (shelf lengths before work : List ℕ) 
       and-false true = refl
       and-false false = refl
 
-  pub shelf-passed : {r : Bool} → r ≡ leb (sum lengths) (length shelf) → r ≡ false → 15 ≡ (surveys how most shelf lengths before work).answer
+  pub shelf-passed : {r : Bool} → r ≡ leb (sum lengths) (length shelf) → r ≡ false → ◌≡◌ {A = Result ⊤ Refusal} (Err BadShelf) (room_for shelf lengths before)
   shelf-passed e f = (no-fit (long-shelf (sym e ∙ f))).0
 
   pub shelf-kept : {r : Bool} → r ≡ leb (sum lengths) (length shelf) → r ≡ false → before ≡ (surveys how most shelf lengths before work).figures
   shelf-kept e f = (no-fit (long-shelf (sym e ∙ f))).1
 
-  pub places-few : length before / 80 ≤ length lengths → 15 ≡ (surveys how most shelf lengths before work).answer
+  pub places-few : length before / 80 ≤ length lengths → ◌≡◌ {A = Result ⊤ Refusal} (Err BadShelf) (room_for shelf lengths before)
   places-few h = (no-fit (few-places h)).0
 
   pub places-kept : length before / 80 ≤ length lengths → before ≡ (surveys how most shelf lengths before work).figures
@@ -238,13 +240,8 @@ module _ (how : Option How) (most : ℕ) (shelf lengths before work : List ℕ) 
     pub room-each : 80 * length lengths ≤ length before
     room-each = omega (arith, enough)
 
-    pub done-answer : {s : List ℕ} {a : ℕ} → s ≡ rows (map (of_image how most (length work)) (images lengths shelf)) ++ drop (80 * length lengths) before → a ≡ total_answer (length lengths) s
-        → a ≡ (surveys how most shelf lengths before work).answer
-    unfolding each rest
-    done-answer {s} {a} g t =
-        let o : total_answer (length lengths) (rows each ++ rest) ≡ 0 = rw each-many at (rows-answer each-wide rest rest-long) in
-        let k : a ≡ 0 = t ∙ rw g o in
-        rw fit k
+    pub done-answer : ◌≡◌ {A = Result ⊤ Refusal} (Ok tt) (room_for shelf lengths before)
+    done-answer = rw fit refl
 
     pub done-figures : {s u : List ℕ} → s ≡ rows (map (of_image how most (length work)) (images lengths shelf)) ++ drop (80 * length lengths) before → u ≡ totaled (length lengths) s
         → u ≡ (surveys how most shelf lengths before work).figures
@@ -257,16 +254,25 @@ module _ (how : Option How) (most : ℕ) (shelf lengths before work : List ℕ) 
         rw fit (k ∙ rw (b, ← (rows-with-total each)))
 
   -- with the work space cleared
-  pub survey-cleared : {a : ℕ} {s : List ℕ} (w : List ℕ) {w' : List ℕ} → (a ≡ (surveys how most shelf lengths before work).answer) × (s ≡ (surveys how most shelf lengths before work).figures) → length w ≡ length work → w' ≡ replicate (length w) 0
-      → ◌≡◌ {A = Surveyed} (record { answer = a; figures = s; work = w' }) (surveys how most shelf lengths before work)
-  survey-cleared {a} {s} w {w'} q l z = by (fits shelf lengths before) q.0 q.1
-    where
-      full : Surveyed
-      full = record { answer = 0; figures = rows (surveyed how most (length work) lengths shelf) ++ drop (80 * (length lengths + 1)) before; work = replicate (length work) 0 }
+  abbrev full : Surveyed
+  full = record { answer = 0; figures = rows (surveyed how most (length work) lengths shelf) ++ drop (80 * (length lengths + 1)) before; work = replicate (length work) 0 }
 
-      bad : Surveyed
-      bad = record { answer = number BadShelf; figures = before; work = replicate (length work) 0 }
+  abbrev bad : Surveyed
+  bad = record { answer = number BadShelf; figures = before; work = replicate (length work) 0 }
 
-      by : (b : Bool) → a ≡ (pick b full bad).answer → s ≡ (pick b full bad).figures → ◌≡◌ {A = Surveyed} (record { answer = a; figures = s; work = w' }) (pick b full bad)
-      by true e f = rw (e, f, z, l)
-      by false e f = rw (e, f, z, l)
+  module _ {s : List ℕ} (q : s ≡ (surveys how most shelf lengths before work).figures) (w : List ℕ) {w' : List ℕ} (l : length w ≡ length work) (z : w' ≡ replicate (length w) 0) where
+    pub survey-done : {t : ⊤} → ◌≡◌ {A = Result ⊤ Refusal} (Ok t) (room_for shelf lengths before) → ◌≡◌ {A = Surveyed} (record { answer = 0; figures = s; work = w' }) (surveys how most shelf lengths before work)
+    survey-done {t} e = by (fits shelf lengths before) e q
+      where
+        by : (b : Bool) → ◌≡◌ {A = Result ⊤ Refusal} (Ok t) (pick b (Ok tt) (Err BadShelf)) → s ≡ (pick b full bad).figures → ◌≡◌ {A = Surveyed} (record { answer = 0; figures = s; work = w' }) (pick b full bad)
+        by true e f = rw (f, z, l)
+        by false e f = absurd cc
+
+    pub survey-bad : {why : Refusal} → ◌≡◌ {A = Result ⊤ Refusal} (Err why) (room_for shelf lengths before) → {a : ℕ} → a ≡ number why → ◌≡◌ {A = Surveyed} (record { answer = a; figures = s; work = w' }) (surveys how most shelf lengths before work)
+    survey-bad {why} e {a} g = by (fits shelf lengths before) e q
+      where
+        by : (b : Bool) → ◌≡◌ {A = Result ⊤ Refusal} (Err why) (pick b (Ok tt) (Err BadShelf)) → s ≡ (pick b full bad).figures → ◌≡◌ {A = Surveyed} (record { answer = a; figures = s; work = w' }) (pick b full bad)
+        by true e f = absurd cc
+        by false e f =
+            let n : why ≡ BadShelf = cc in
+            rw (g, n, f, z, l)

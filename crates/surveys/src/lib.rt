@@ -19,9 +19,10 @@ ghost use Rattle.volumes.specs.Openings.{opened_of};
 ghost use Rattle.surveys.specs.Surveys.{of_image, surveys};
 ghost use Rattle.surveys.specs.Inner.Parts.{EachIn, Surveys};
 
-use disc::answers::{BAD_SHELF, DONE, OVER_BUDGET, UNSUPPORTED};
+use disc::answers::DONE;
 use disc::counts::left_of;
 use disc::moves::clear;
+use disc::refusals::Refusal;
 use figures::{PLACE, add_image, clear_figures, total};
 use shows::whole::tally_tree;
 use volumes::openings::{How, Opened, open_volume, refused};
@@ -31,7 +32,7 @@ fn open_by(image: &[u8], how: Option<How>) -> Opened
     ensures { result ≡ opened_of (ran (disc image.now) (opening_by how)) }
 {
     match how {
-        None => refused(UNSUPPORTED, 0),
+        None => refused(Refusal::Unsupported.number(), 0),
         Some(choices) => open_volume(image, choices),
     }
 }
@@ -42,7 +43,7 @@ fn open_within(image: &[u8], how: Option<How>, most: u64) -> Opened
 {
     let opened = open_by(image, how);
     if most < opened.count {
-        return refused(OVER_BUDGET, most);
+        return refused(Refusal::OverBudget.number(), most);
     }
     opened
 }
@@ -117,17 +118,19 @@ fn survey_all(
     most: u64,
     figures: &mut [u64],
     work: &mut [u8],
-) -> u64
+) -> Result<(), Refusal>
     ensures { Surveys how most work.old shelf.now lengths.now figures.old figures.new result }
 {
     if !within(lengths, shelf.len() as u64) {
-        return BAD_SHELF;
+        return Err(Refusal::BadShelf);
     }
     if figures.len() / PLACE <= lengths.len() {
-        return BAD_SHELF;
+        return Err(Refusal::BadShelf);
     }
     survey_each(shelf, lengths, how, most, figures, work);
-    total(figures, lengths.len())
+    // The last place is there, so the total is never refused.
+    total(figures, lengths.len());
+    Ok(())
 }
 
 // Figures over the images in `shelf`, which follow one another from its front as `lengths` says: a place of PLACE
@@ -144,7 +147,10 @@ pub fn survey(
 ) -> u64
     ensures { record { answer = result; figures = figures.new; work = work.new } ≡ surveys how most shelf.now lengths.now figures.old work.old }
 {
-    let answer = survey_all(shelf, lengths, how, most, figures, work);
+    let surveyed = survey_all(shelf, lengths, how, most, figures, work);
     clear(work);
-    answer
+    match surveyed {
+        Err(why) => why.number(),
+        Ok(()) => DONE,
+    }
 }

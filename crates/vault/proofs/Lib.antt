@@ -1,5 +1,4 @@
 -- What the calls leave, from the contracts of the crates below, and the promises.
-pub mod CallLaws
 pub mod Promises
 pub mod Along
 pub mod AtHand

@@ -1,5 +1,5 @@
 -- The items one at a time: a place among them, and what it leads to.
-use Rattle.std.specs.Prelude.{ℕ, ◌+◌, ◌-◌, ◌≤◌, ◌<◌, min, ◌≡◌, Bool, true, false, ◌||◌, List, [], ◌++◌, length, take, drop, leb}
+use Rattle.std.specs.Prelude.{ℕ, ◌+◌, ◌-◌, ◌≤◌, ◌<◌, min, ◌≡◌, Bool, ◌||◌, List, [], ◌++◌, length, take, drop, leb, Option, Some, None}
 use Rattle.std.proofs.lemmas.List.Edits.{sets}
 use Rattle.disc.specs.Choice.{pick}
 use Rattle.disc.specs.Counts.{reported}
@@ -15,13 +15,20 @@ is_last bytes rows end places = leb bytes end || leb rows places
 -- the place after an item that ends at `end` and has this reply, in a list of `bytes` bytes; the shorter row has `rows` places
 unfoldable pub place_behind : ℕ → ℕ → ItemPlace → ℕ → Reply → ItemPlace
 place_behind bytes rows p end reply =
-    pick (is_last bytes rows end (p.places + 1))
-    (record { going = false; from = end; places = p.places + 1; filled = p.filled + reply.length; count = reported (p.count + reply.count) })
-    (record { going = true; from = end + 1; places = p.places + 1; filled = p.filled + reply.length; count = reported (p.count + reply.count) })
+    record {
+      next = pick (is_last bytes rows end (p.places + 1)) None (Some (end + 1));
+      places = p.places + 1;
+      filled = p.filled + reply.length;
+      count = reported (p.count + reply.count);
+    }
 
 -- the items that are yet to be read
+abbrev pub items_from : List ℕ → Option ℕ → List (List ℕ)
+items_from paths None = []
+items_from paths (Some from) = items (drop from paths)
+
 unfoldable pub items_at : List ℕ → ItemPlace → List (List ℕ)
-items_at paths p = pick p.going (items (drop p.from paths)) []
+items_at paths p = items_from paths p.next
 
 -- what the call leaves once a stack is laid after what the items before it took
 abbrev pub laid_at : ItemPlace → List ℕ → List ℕ → List ℕ → Stack → Stacked
@@ -38,17 +45,21 @@ leads_to read paths p out lengths answers = laid_at p out lengths answers (stack
 
 -- before the first item
 abbrev pub start : ItemPlace
-start = record { going = true; from = 0; places = 0; filled = 0; count = 0 }
+start = record { next = Some 0; places = 0; filled = 0; count = 0 }
 
 -- what the call leaves where there is a place for each item
 abbrev pub all_read : (List ℕ → Ran (List ℕ)) → List ℕ → List ℕ → List ℕ → List ℕ → Stacked
 all_read read paths out lengths answers = laid lengths answers (stacked read out (items paths))
 
+-- the next item, where there is one, starts inside the list, and has a place in both rows
+abbrev pub Next : ℕ → ℕ → ℕ → Option ℕ → Type 0
+Next bytes rows places None = Unit {0}
+Next bytes rows places (Some from) = (from ≤ bytes) × (places < rows)
+
 -- the place is inside what was lent, whatever the paths say
 pub record On (bytes out rows : ℕ) (p : ItemPlace) : Type 0 where
-  pub within : p.from ≤ bytes
   pub room : p.filled ≤ out
-  pub placed : p.going ≡ true → p.places < rows
+  pub next : Next bytes rows p.places p.next
   pub counted : p.count ≤ 0xffff_ffff_ffff_ffff
 
 -- both rows have a place for each item that is left
@@ -56,8 +67,12 @@ abbrev pub Enough : List ℕ → ℕ → ItemPlace → Type 0
 Enough paths rows p = p.places + length (items_at paths p) ≤ rows
 
 -- how far it is to the end
+abbrev pub turns_from : ℕ → Option ℕ → ℕ
+turns_from bytes None = 0
+turns_from bytes (Some from) = 1 + (bytes - from)
+
 abbrev pub turns_left : ℕ → ItemPlace → ℕ
-turns_left bytes p = pick p.going (1 + (bytes - p.from)) 0
+turns_left bytes p = turns_from bytes p.next
 
 -- one item read: a place nearer the end, inside what was lent. It leads to the same where there are places enough.
 pub record Turns (read : List ℕ → Ran (List ℕ)) (paths : List ℕ) (p : ItemPlace) (out lengths answers : List ℕ) (q : ItemPlace) (out' lengths' answers' : List ℕ) : Type 0 where

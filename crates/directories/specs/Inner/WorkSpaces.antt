@@ -1,6 +1,5 @@
 -- What a walk along a path leaves in the work space: each directory read, over the front of what the one before it left.
 use Rattle.std.specs.Prelude.{ℕ, Bool, true, false, List, [], ◌∷◌, length, drop, Option, Some, None}
-use Rattle.disc.specs.Choice.{pick}
 use Rattle.disc.specs.Ask.{Disc, Outcome}
 use Rattle.disc.specs.Ask.Outcome.{answered, refused}
 use Rattle.disc.specs.Ran.{ran}
@@ -13,7 +12,8 @@ use Rattle.listings.specs.declared.matchings.Matching.{Matching}
 use Rattle.directories.specs.Directories.{directory_bytes}
 use Rattle.directories.specs.Lookups.{entering}
 use Rattle.directories.specs.Inner.Spaces.{on_front}
-use Rattle.directories.specs.declared.walks.PathPlace.{PathPlace}
+use Rattle.directories.specs.declared.walks.Turn.{Turn}
+use Rattle.directories.specs.declared.walks.Turn.TheVariants.{Goes, Ends}
 
 -- the work space once the directory at icb is read into it; as it came where that is refused
 abbrev pub read_into : Disc → Mount → List ℕ → LongAd → List ℕ
@@ -38,6 +38,6 @@ unfoldable pub path_leaves : Disc → Matching → Mount → LongAd → List ℕ
 path_leaves d matching v root path work = walk_leaves d matching v (components path) root true work
 
 -- after the rest of a walk, from a place on
-unfoldable pub place_leaves : Disc → Matching → Mount → List ℕ → PathPlace → List ℕ → List ℕ
-place_leaves d matching v path p work =
-    pick p.going (walk_leaves d matching v (components_from p.from (drop p.from path)) p.icb p.directory work) work
+unfoldable pub place_leaves : Disc → Matching → Mount → List ℕ → Turn → List ℕ → List ℕ
+place_leaves d matching v path (Goes p) work = walk_leaves d matching v (components_from p.from (drop p.from path)) p.icb p.directory work
+place_leaves d matching v path (Ends x) work = work

@@ -17,14 +17,15 @@ use Rattle.drives.specs.declared.scans.Scan.{Scan}
 use Rattle.drives.specs.declared.readings.Body.{Body}
 use Rattle.drives.specs.declared.readings.Reading.{Reading}
 use Rattle.disc.specs.declared.refusals.Refusal.{Refusal}
+use Rattle.disc.specs.declared.refusals.Refusal.TheVariants.{Malformed, BadCrc}
 
 -- ---- the header's verdict, once all has come
 
 abbrev pub is_wrong : Bool → Body → Bool
 is_wrong check b = check && not (is_right b [])
 
-abbrev pub judged : Bool → Body → ℕ
-judged check b = pick b.tagged (pick (is_wrong check b) 10 (pick b.headed 0 2)) 2
+abbrev pub judged : Bool → Body → Result (Unit {0}) Refusal
+judged check b = pick b.tagged (pick (is_wrong check b) (Err BadCrc) (pick b.headed (Ok tt) (Err Malformed))) (Err Malformed)
 
 unfoldable pub finished : Reading → List (List ℕ) → Feed
 finished r row =

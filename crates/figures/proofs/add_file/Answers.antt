@@ -5,6 +5,3 @@ use Rattle.figures.proofs.add_file.Goals as goal
 
 pub returns-then-place-ne-PLACE : goal.returns-then-place-ne-PLACE
 returns-then-place-ne-PLACE c = let a = c.args in no-file c.if-place-ne-PLACE.true (min a.answer 16) a.bytes a.extents a.sectors a.chain
-
-pub returns : goal.returns
-returns c = rw (← c.min-under.ensures) c.add_sizes.ensures

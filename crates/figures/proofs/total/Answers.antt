@@ -5,8 +5,5 @@ use Rattle.figures.proofs.total.Goals as goal
 
 ruleset totals = (total-few, total_kept, total-answers, total-done, rules)
 
-pub returns-then-places-n : goal.returns-then-places-n
-returns-then-places-n c = (search totals, search totals)
-
 pub returns : goal.returns
 returns c = (search totals, total-done c.args.places.now c.args.n (search rules) c.clear_figures.ensures c.add_places.ensures)

@@ -7,6 +7,3 @@ ruleset choices = (open_unknown, open-known, rules)
 
 pub returns-in-None : goal.returns-in-None
 returns-in-None c = search choices
-
-pub returns-in-Some : goal.returns-in-Some
-returns-in-Some c = search choices

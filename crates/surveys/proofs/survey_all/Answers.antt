@@ -6,14 +6,5 @@ use Rattle.surveys.proofs.survey_all.Goals as goal
 
 ruleset surveys = (shelf-passed, shelf-kept, places-few, places-kept, room-each, done-answer, done-figures, not-true, not-false, rules)
 
-pub returns-then-not-within : goal.returns-then-not-within
-returns-then-not-within c = (search surveys, search surveys)
-
-pub returns-then-figures-lengths : goal.returns-then-figures-lengths
-returns-then-figures-lengths c = (search surveys, search surveys)
-
-pub survey_each-requires : goal.survey_each-requires
-survey_each-requires c = search surveys
-
 pub returns : goal.returns
 returns c = (search surveys, search surveys)

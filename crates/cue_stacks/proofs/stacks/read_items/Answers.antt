@@ -8,14 +8,14 @@ ruleset reads = (read-starts, read-ends, rules)
 pub loop-p-init : goal.loop-p-init
 loop-p-init c = search reads
 
-pub read_item-q-requires : goal.read_item-q-requires
-read_item-q-requires c = search reads
+pub read_item-p-requires : goal.read_item-p-requires
+read_item-p-requires c = search reads
 
 pub loop-p-smaller : goal.loop-p-smaller
 loop-p-smaller c = search reads
 
 pub loop-p-preserved : goal.loop-p-preserved
-loop-p-preserved c = (read-on _ _ _ _ _ _ _ _ c.loop-p.invariant.1 c.loop-p.invariant.0 c.read_item-q.ensures, search rules)
+loop-p-preserved c = (read-on _ _ _ _ _ _ _ _ c.loop-p.invariant.1 c.loop-p.invariant.0 c.read_item-p.ensures, search rules)
 
 pub shape_of-out : goal.shape_of-out
 shape_of-out c = search reads

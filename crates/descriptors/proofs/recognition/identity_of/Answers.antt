@@ -4,33 +4,17 @@ use Rattle.disc.proofs.PickLaws.{picks}
 use Rattle.descriptors.specs.Recognition.{identity_of}
 use Rattle.descriptors.proofs.recognition.identity_of.Goals as goal
 
-pub is_identified-requires : goal.is_identified-requires
-unfolding identity_of
-is_identified-requires c = search rules
-
 pub returns-then-is_identified : goal.returns-then-is_identified
 unfolding identity_of
 returns-then-is_identified c = search picks
-
-pub is_nsr-requires : goal.is_nsr-requires
-unfolding identity_of
-is_nsr-requires c = search rules
 
 pub returns-then-is_nsr : goal.returns-then-is_nsr
 unfolding identity_of
 returns-then-is_nsr c = search picks
 
-pub is_identified-requires-2 : goal.is_identified-requires-2
-unfolding identity_of
-is_identified-requires-2 c = search rules
-
 pub returns-then-is_identified-2 : goal.returns-then-is_identified-2
 unfolding identity_of
 returns-then-is_identified-2 c = search picks
-
-pub is_other-requires : goal.is_other-requires
-unfolding identity_of
-is_other-requires c = search rules
 
 pub returns-then-is_other : goal.returns-then-is_other
 unfolding identity_of

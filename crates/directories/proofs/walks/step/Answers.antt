@@ -48,4 +48,4 @@ pub shape_of-work : goal.shape_of-work
 shape_of-work c = search steps
 
 pub returns : goal.returns
-returns c = let from = c.component_from-from.ensures in let read = c.enter-e.ensures in let inside = not-false _ c.if-not-p.false in record { steps = step-enters _ _ _ _ _ c.requires.0 c.requires.1 from c.if-path-from.false c.component_end-end.ensures inside read.value c.add_counts.ensures c.beyond.ensures; work_after = leaves-entered _ _ _ _ c.requires.0 c.requires.1 from _ c.if-path-from.false c.component_end-end.ensures inside read.value _ c.beyond.ensures read.work_after }
+returns c = let from = c.component_from-from.ensures in let read = c.enter-e.ensures in let inside = not-false _ c.if-not-p.false in record { steps = step-enters _ _ _ _ _ c.requires from c.if-path-from.false c.component_end-end.ensures inside read.value c.add_counts.ensures c.beyond.ensures; work_after = leaves-entered _ _ _ _ c.requires from _ c.if-path-from.false c.component_end-end.ensures inside read.value _ c.beyond.ensures read.work_after }
