@@ -13,8 +13,8 @@
 // Stack: a call takes at most these bytes on x86-64, with bodies unchecked and checked. tools/stack.py measures them, on
 // a tree of 16 levels where that matters. A call that the table doesn't name takes at most 512.
 //
-//     vault_open                   2,432    2,432
-//     vault_label                  2,432    2,432
+//     vault_open                   1,664    1,792
+//     vault_label                  1,664    1,664
 //     vault_lookup                 2,048    2,048
 //     vault_failed                 2,048    2,048
 //     vault_list                   1,536    1,536
@@ -26,7 +26,7 @@
 //     vault_read_path              2,048    2,048
 //     vault_read_all               2,176    2,176
 //     vault_write                  1,280    1,280
-//     vault_opening_step           1,536    1,536
+//     vault_opening_step           1,664    1,664
 //     vault_reading_step           2,432    2,432
 //     vault_list_bytes               512      640
 //     vault_match                    768      768

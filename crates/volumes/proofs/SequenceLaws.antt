@@ -1,5 +1,5 @@
 -- Laws of the scan of a volume descriptor sequence, as the code's loop asks for them. Assumes nothing.
-use Rattle.std.specs.Prelude.{Ok, Err}
+use Rattle.std.specs.Prelude.{true, false, Result, Ok, Err}
 use mathlib.Core.Path.{◌≡◌, refl, ap, sym, ◌∙◌}
 use mathlib.Core.Bool.{Bool}
 use mathlib.Core.List.{List, ◌∷◌}
@@ -16,11 +16,10 @@ use Rattle.disc.proofs.RanLaws.{ran-done, ran-refuse, ran-there, ran-missing, ra
 use Rattle.disc.proofs.ImageLaws.{held, missing}
 use Rattle.disc.specs.declared.refusals.Refusal.{Refusal}
 use Rattle.disc.specs.declared.refusals.Refusal.TheVariants.{Io}
-use Rattle.volumes.specs.Sequences.{nothing, Parsed, Order, order_of, wanted_of, prevailing, kept_of, Says, says_in, go_on, scan, turn_of, scanned_by, scanned_of}
+use Rattle.volumes.specs.Sequences.{nothing, Parsed, Order, order_of, wanted_of, prevailing, kept_of, Says, says_in, go_on, scan, turned_on, turn_of, scanned_by, scanned_of}
 use Rattle.volumes.specs.Sequences.Says.{found, passed, over, fails}
 use Rattle.volumes.specs.declared.sequences.Kept.{Kept}
 use Rattle.volumes.specs.declared.sequences.Wanted.{Wanted}
-use Rattle.volumes.specs.declared.sequences.SectorTurn.{SectorTurn}
 use Rattle.volumes.specs.declared.sequences.SectorTurn.TheVariants.{GoesOn, Over, Fails}
 use Rattle.volumes.specs.declared.openings.How.{How}
 
@@ -93,23 +92,23 @@ module _ {image : List ℕ} {how : How} {wanted : Wanted} {first n i : ℕ} {kep
         p.rest
         ∙ rw (one_more, ran-there (disc image) (first + i) _ sector (held image (first + i) there)) (scanned-twice (order_of how) (wanted_of wanted) kept i (ran (disc image) (go_on (says_in how.checked sector) behind)))
 
-    module _ {b : List ℕ} {t : SectorTurn} (g : b ≡ bytes_in (disc image (first + i))) (e : t ≡ turn_of (order_of how) (wanted_of wanted) kept (says_in how.checked b)) where
-      told : t ≡ turn_of (order_of how) (wanted_of wanted) kept (says_in how.checked sector)
-      told = e ∙ ap (λ x. turn_of (order_of how) (wanted_of wanted) kept (says_in how.checked x)) (g ∙ sector-is)
+    module _ {b : List ℕ} {r : Result Bool Refusal} (l : Kept) (g : b ≡ bytes_in (disc image (first + i))) (e : turned_on r l ≡ turn_of (order_of how) (wanted_of wanted) kept (says_in how.checked b)) where
+      told : {q : Result Bool Refusal} → r ≡ q → turned_on q l ≡ turn_of (order_of how) (wanted_of wanted) kept (says_in how.checked sector)
+      told y = ap (λ x. turned_on x l) (sym y) ∙ e ∙ ap (λ x. turn_of (order_of how) (wanted_of wanted) kept (says_in how.checked x)) (g ∙ sector-is)
 
-      pub scan-next : {l : Kept} → t ≡ GoesOn l → Scanning image how wanted first n l (i + 1)
+      pub scan-next : r ≡ Ok true → Scanning image how wanted first n l (i + 1)
       scan-next y =
           let a : first + i + 1 ≡ first + (i + 1) = omega arith in
           record {
             within = omega arith;
-            rest = rw (← a) (turn-rest ∙ going_on (order_of how) (wanted_of wanted) (disc image) kept (says_in how.checked sector) behind (i + 1) (sym y ∙ told));
+            rest = rw (← a) (turn-rest ∙ going_on (order_of how) (wanted_of wanted) (disc image) kept (says_in how.checked sector) behind (i + 1) (told y));
           }
 
-      pub scan-over : {l : Kept} → t ≡ Over l → record { count = i + 1; kept = Ok l } ≡ scanned_of (order_of how) (wanted_of wanted) nothing (ran (disc image) (scan how.checked n first))
-      scan-over y = sym (turn-rest ∙ over_at (order_of how) (wanted_of wanted) (disc image) kept (says_in how.checked sector) behind (i + 1) (sym y ∙ told))
+      pub scan-over : r ≡ Ok false → record { count = i + 1; kept = Ok l } ≡ scanned_of (order_of how) (wanted_of wanted) nothing (ran (disc image) (scan how.checked n first))
+      scan-over y = sym (turn-rest ∙ over_at (order_of how) (wanted_of wanted) (disc image) kept (says_in how.checked sector) behind (i + 1) (told y))
 
-      pub scan-fails : {why : Refusal} → t ≡ Fails why → record { count = i + 1; kept = Err why } ≡ scanned_of (order_of how) (wanted_of wanted) nothing (ran (disc image) (scan how.checked n first))
-      scan-fails y = sym (turn-rest ∙ fails_at (order_of how) (wanted_of wanted) (disc image) kept (says_in how.checked sector) behind (i + 1) (sym y ∙ told))
+      pub scan-fails : {why : Refusal} → r ≡ Err why → record { count = i + 1; kept = Err why } ≡ scanned_of (order_of how) (wanted_of wanted) nothing (ran (disc image) (scan how.checked n first))
+      scan-fails y = sym (turn-rest ∙ fails_at (order_of how) (wanted_of wanted) (disc image) kept (says_in how.checked sector) behind (i + 1) (told y))
 
   -- it isn't
   pub scan-gone : {m : ℕ} → m ≡ held_from image (first + i) → m ≡ 0 → record { count = i + 1; kept = Err Io } ≡ scanned_of (order_of how) (wanted_of wanted) nothing (ran (disc image) (scan how.checked n first))

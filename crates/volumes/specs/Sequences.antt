@@ -1,5 +1,5 @@
 -- The volume descriptor sequence (ECMA-167 3/8.4.2), and which of its descriptors prevail: RULES 5.3 to 5.6 and 5.20.
-use Rattle.std.specs.Prelude.{ℕ, zero, suc, ◌+◌, Bool, true, false, List, [], ◌∷◌, replicate, eqb, leb, Result, Ok, Err}
+use Rattle.std.specs.Prelude.{ℕ, zero, suc, ◌+◌, ⊤, Bool, true, false, List, [], ◌∷◌, replicate, eqb, leb, Result, Ok, Err}
 use Rattle.disc.specs.Choice.{pick}
 use Rattle.disc.specs.Ask.{Ask, Outcome, then}
 use Rattle.disc.specs.Ask.Ask.{done, refuse, ask}
@@ -189,9 +189,15 @@ scan check (suc n) at = ask at (λ b. go_on (says_in check b) (scan check n (at 
 -- ---- as the code reports it, where k was kept before
 
 -- behind a descriptor that was looked at
-abbrev pub turned : Result Kept Refusal → SectorTurn
-turned (Ok k) = GoesOn k
-turned (Err r) = Fails r
+abbrev pub turned : Result ⊤ Refusal → Kept → SectorTurn
+turned (Ok _) k = GoesOn k
+turned (Err r) k = Fails r
+
+-- and behind a sector: whether the scan goes on
+abbrev pub turned_on : Result Bool Refusal → Kept → SectorTurn
+turned_on (Ok true) k = GoesOn k
+turned_on (Ok false) k = Over k
+turned_on (Err r) k = Fails r
 
 abbrev pub turn_of : Order → (ℕ → Bool) → Kept → Says → SectorTurn
 turn_of prevails wanted k (found p) = GoesOn (prevailing prevails wanted k p)

@@ -4,7 +4,7 @@ ghost use Rattle.disc.specs.Choice.{pick};
 ghost use Rattle.disc.specs.Ran.{ran};
 ghost use Rattle.disc.specs.Images.{disc};
 ghost use Rattle.descriptors.specs.Volumes.{read_primary, read_partition, read_logical};
-ghost use Rattle.volumes.specs.Sequences.{nothing, order_of, any_partition, wanted_of, primary_in, partition_in, logical_in, says_in, turned, turn_of, scan, scanned_of};
+ghost use Rattle.volumes.specs.Sequences.{nothing, order_of, any_partition, wanted_of, primary_in, partition_in, logical_in, says_in, turned, turned_on, turn_of, scan, scanned_of};
 
 use crate::openings::How;
 use descriptors::logicals::LogicalVolumeDescriptor;
@@ -85,16 +85,6 @@ pub fn nothing_kept() -> Kept
     }
 }
 
-// A descriptor was looked at: the scan goes on, or is refused.
-fn turned(r: Result<Kept, Refusal>) -> SectorTurn
-    ensures { result ≡ turned r }
-{
-    match r {
-        Ok(k) => SectorTurn::GoesOn(k),
-        Err(why) => SectorTurn::Fails(why),
-    }
-}
-
 // Whether the later of two descriptors of one kind counts, by their sequence numbers.
 fn is_prevailing(how: How, earlier: u32, later: u32) -> bool
     ensures { result ≡ order_of how earlier later }
@@ -125,74 +115,78 @@ fn is_wanted(wanted: Wanted, number: u16) -> bool
     }
 }
 
-fn take_primary(how: How, k: Kept, b: &[u8]) -> Result<Kept, Refusal>
-    ensures { turned result ≡ turn_of (order_of how) any_partition k (primary_in (read_primary how.checked b.now)) }
+// A descriptor that counts takes the place of the one that is kept of its kind.
+fn take_primary(how: How, k: &mut Kept, b: &[u8]) -> Result<(), Refusal>
+    ensures { turned result k.new ≡ turn_of (order_of how) any_partition k.old (primary_in (read_primary how.checked b.now)) }
 {
     let d = PrimaryVolumeDescriptor::parse(how.checked, b)?;
     let number = d.volume_descriptor_sequence_number;
-    if !is_taken(how, k.has_primary, k.primary_sequence, number) {
-        return Ok(k);
+    if is_taken(how, k.has_primary, k.primary_sequence, number) {
+        let label = d.volume_identifier;
+        k.has_primary = true;
+        k.primary_sequence = number;
+        k.label = label;
     }
-    let label = d.volume_identifier;
-    Ok(Kept {
-        has_primary: true,
-        primary_sequence: number,
-        label,
-        ..k
-    })
+    Ok(())
 }
 
-fn take_partition(how: How, wanted: Wanted, k: Kept, b: &[u8]) -> Result<Kept, Refusal>
-    ensures { turned result ≡ turn_of (order_of how) (wanted_of wanted) k (partition_in (read_partition how.checked b.now)) }
+fn take_partition(how: How, wanted: Wanted, k: &mut Kept, b: &[u8]) -> Result<(), Refusal>
+    ensures { turned result k.new ≡ turn_of (order_of how) (wanted_of wanted) k.old (partition_in (read_partition how.checked b.now)) }
 {
     let d = PartitionDescriptor::parse(how.checked, b)?;
     if !is_wanted(wanted, d.partition_number) {
-        return Ok(k);
+        return Ok(());
     }
     let number = d.volume_descriptor_sequence_number;
-    if !is_taken(how, k.has_partition, k.partition_sequence, number) {
-        return Ok(k);
+    if is_taken(how, k.has_partition, k.partition_sequence, number) {
+        k.has_partition = true;
+        k.partition_sequence = number;
+        k.partition_number = d.partition_number;
+        k.partition_start = d.partition_starting_location;
     }
-    Ok(Kept {
-        has_partition: true,
-        partition_sequence: number,
-        partition_number: d.partition_number,
-        partition_start: d.partition_starting_location,
-        ..k
-    })
+    Ok(())
 }
 
-fn take_logical(how: How, k: Kept, b: &[u8]) -> Result<Kept, Refusal>
-    ensures { turned result ≡ turn_of (order_of how) any_partition k (logical_in (read_logical how.checked b.now)) }
+fn take_logical(how: How, k: &mut Kept, b: &[u8]) -> Result<(), Refusal>
+    ensures { turned result k.new ≡ turn_of (order_of how) any_partition k.old (logical_in (read_logical how.checked b.now)) }
 {
     let d = LogicalVolumeDescriptor::parse(how.checked, b)?;
     let number = d.volume_descriptor_sequence_number;
-    if !is_taken(how, k.has_logical, k.logical_sequence, number) {
-        return Ok(k);
+    if is_taken(how, k.has_logical, k.logical_sequence, number) {
+        let maps = d.partition_maps;
+        k.has_logical = true;
+        k.logical_sequence = number;
+        k.block_size = d.logical_block_size;
+        k.file_set = d.file_set_descriptor_location;
+        k.map_table_length = d.map_table_length;
+        k.map_count = d.number_of_partition_maps;
+        k.maps = maps;
     }
-    let maps = d.partition_maps;
-    Ok(Kept {
-        has_logical: true,
-        logical_sequence: number,
-        block_size: d.logical_block_size,
-        file_set: d.file_set_descriptor_location,
-        map_table_length: d.map_table_length,
-        map_count: d.number_of_partition_maps,
-        maps,
-        ..k
-    })
+    Ok(())
 }
 
-// One sector of the sequence, by its id.
-pub fn take_sector(how: How, wanted: Wanted, k: Kept, b: &[u8]) -> SectorTurn
-    ensures { result ≡ turn_of (order_of how) (wanted_of wanted) k (says_in how.checked b.now) }
+// What one sector of the sequence, by its id, does to what is kept, in place: whether the scan goes on.
+fn take_into(how: How, wanted: Wanted, k: &mut Kept, b: &[u8]) -> Result<bool, Refusal>
+    ensures { turned_on result k.new ≡ turn_of (order_of how) (wanted_of wanted) k.old (says_in how.checked b.now) }
 {
     match le16(b, 0) {
-        1 => turned(take_primary(how, k, b)),
-        5 => turned(take_partition(how, wanted, k, b)),
-        6 => turned(take_logical(how, k, b)),
-        8 => SectorTurn::Over(k),
-        _ => SectorTurn::GoesOn(k),
+        1 => take_primary(how, k, b)?,
+        5 => take_partition(how, wanted, k, b)?,
+        6 => take_logical(how, k, b)?,
+        8 => return Ok(false),
+        _ => {}
+    }
+    Ok(true)
+}
+
+// One sector of the sequence.
+pub fn take_sector(how: How, wanted: Wanted, mut k: Kept, b: &[u8]) -> SectorTurn
+    ensures { result ≡ turn_of (order_of how) (wanted_of wanted) k (says_in how.checked b.now) }
+{
+    match take_into(how, wanted, &mut k, b) {
+        Ok(true) => SectorTurn::GoesOn(k),
+        Ok(false) => SectorTurn::Over(k),
+        Err(why) => SectorTurn::Fails(why),
     }
 }
 
@@ -210,15 +204,15 @@ pub fn scan_sequence(image: &[u8], how: How, wanted: Wanted, first: u32, n: u32)
                 kept: Err(Refusal::Io),
             };
         }
-        match take_sector(how, wanted, kept, sector_at(image, at)) {
-            SectorTurn::GoesOn(next) => kept = next,
-            SectorTurn::Over(last) => {
+        match take_into(how, wanted, &mut kept, sector_at(image, at)) {
+            Ok(true) => {}
+            Ok(false) => {
                 return Scanned {
                     count,
-                    kept: Ok(last),
+                    kept: Ok(kept),
                 };
             }
-            SectorTurn::Fails(why) => {
+            Err(why) => {
                 return Scanned {
                     count,
                     kept: Err(why),

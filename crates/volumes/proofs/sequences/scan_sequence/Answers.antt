@@ -8,11 +8,11 @@ ruleset scans = (scan-next, scan-over, scan-fails, scan-gone, scan-ends, rules)
 pub returns-then-held_from-eq0 : goal.returns-then-held_from-eq0
 returns-then-held_from-eq0 c = search scans
 
-pub returns-in-Over : goal.returns-in-Over
-returns-in-Over c = search scans
+pub returns-in-Ok-false : goal.returns-in-Ok-false
+returns-in-Ok-false c = search scans
 
-pub returns-in-Fails : goal.returns-in-Fails
-returns-in-Fails c = search scans
+pub returns-in-Err : goal.returns-in-Err
+returns-in-Err c = search scans
 
 pub loop-i-preserved : goal.loop-i-preserved
 loop-i-preserved c = search scans
