@@ -1,3 +1,4 @@
 -- What the contracts cite.
 pub mod Lent
+pub mod Shown
 pub mod Words
