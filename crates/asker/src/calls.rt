@@ -1,11 +1,12 @@
 // Makes each call, and gives its line. A call is lent exactly what its query says, all of it full of A5.
-use crate::lines::{Answered, Written, lent};
+use crate::lines::{Answered, Written, lent, put_text};
 use crate::queries::{how_of, icb, levels, matching, most, room, space, text, volume};
 use crate::rows::{line_of_extents, line_of_read_all, line_of_runs};
 use disc::replies::Reply;
 use programs::lent::{front, sum};
 use programs::shown::{Escaped, Numbers, WorkSpace};
 use std::alloc::{AllocError, Global};
+use std::fmt::Write;
 use vault::volume::{Volume, label, probe};
 
 #[derive(Clone, Copy)]
@@ -48,22 +49,28 @@ pub(crate) const CALLS: [Call; 16] = [
     Call::PartAt,
 ];
 
-type Line = Result<String, AllocError>;
+// A line is put behind what is in `line`.
+type Put = Result<(), AllocError>;
 
 // ---- opening
 
-fn line_of_probe(alloc: Global, image: &[u8]) -> Line {
-    format!(in alloc; "probe {}", if probe(image) { "yes" } else { "no" })
+fn line_of_probe(image: &[u8], line: &mut String) -> Put {
+    line.push_str(if probe(image) {
+        "probe yes"
+    } else {
+        "probe no"
+    })
 }
 
-fn line_of_open(alloc: Global, image: &[u8], way: u32) -> Line {
+fn line_of_open(image: &[u8], way: u32, line: &mut String) -> Put {
     let opened = Volume::open(image, how_of(way));
     let v = opened.volume;
     let m = v.mount;
     let (volumes, numbers, starts) = (m.volumes, m.numbers, m.starts);
     let (root, name) = (v.root.encode(), v.label);
-    format!(in alloc;
-        "open {} count {} start {} partition {} checked {} maps {} volumes{} numbers{} starts{} root {} label {}",
+    write!(
+        line,
+        "open {} count {} start {} partition {} checked {} maps {} volumes{} numbers{} starts{} root ",
         opened.answer,
         opened.count,
         m.start,
@@ -72,36 +79,38 @@ fn line_of_open(alloc: Global, image: &[u8], way: u32) -> Line {
         m.maps,
         Numbers(&volumes),
         Numbers(&numbers),
-        Numbers(&starts),
-        Escaped(&root),
-        Escaped(&name)
-    )
+        Numbers(&starts)
+    )?;
+    put_text(line, &root)?;
+    line.push_str(" label ")?;
+    put_text(line, &name)
 }
 
-fn line_of_label(alloc: Global, image: &[u8], q: &[u8]) -> Line {
+fn line_of_label(alloc: Global, image: &[u8], q: &[u8], line: &mut String) -> Put {
     let mut out = lent(alloc, room(q))?;
     let r = label(image, how_of(volume(q)), &mut out);
     let n = r.length as usize;
     let name = Escaped(front(&out, n));
-    format!(in alloc; "label {} {} text {name}", Answered(r), Written(&out, n))
+    write!(
+        line,
+        "label {} {} text {name}",
+        Answered(r),
+        Written(&out, n)
+    )
 }
 
 // ---- by a path
 
-fn line_of_lookup(alloc: Global, v: Volume, image: &[u8], q: &[u8]) -> Line {
+fn line_of_lookup(alloc: Global, v: Volume, image: &[u8], q: &[u8], line: &mut String) -> Put {
     let mut work = lent(alloc, space(q))?;
     let r = v.lookup(image, text(q), matching(q), &mut work);
     let icb = r.icb.encode();
-    format!(in alloc;
-        "lookup {} count {} icb {} {}",
-        r.answer,
-        r.count,
-        Escaped(&icb),
-        WorkSpace(&work)
-    )
+    write!(line, "lookup {} count {} icb ", r.answer, r.count)?;
+    put_text(line, &icb)?;
+    write!(line, " {}", WorkSpace(&work))
 }
 
-fn line_of_failed(alloc: Global, v: Volume, image: &[u8], q: &[u8]) -> Line {
+fn line_of_failed(alloc: Global, v: Volume, image: &[u8], q: &[u8], line: &mut String) -> Put {
     let mut work = lent(alloc, space(q))?;
     let mut answer: u64 = 99;
     let mut count: u64 = 99;
@@ -113,48 +122,60 @@ fn line_of_failed(alloc: Global, v: Volume, image: &[u8], q: &[u8]) -> Line {
         &mut answer,
         &mut count,
     );
-    format!(in alloc;
-        "failed {answer} count {count} length {} component {} {}",
-        component.len(),
-        Escaped(component),
+    let length = component.len();
+    write!(
+        line,
+        "failed {answer} count {count} length {length} component "
+    )?;
+    put_text(line, component)?;
+    write!(line, " {}", WorkSpace(&work))
+}
+
+fn line_of_failed_at(alloc: Global, v: Volume, image: &[u8], q: &[u8], line: &mut String) -> Put {
+    let mut work = lent(alloc, space(q))?;
+    let mut place: usize = 99;
+    let r = v.failed_at(image, text(q), matching(q), &mut work, &mut place);
+    write!(
+        line,
+        "failed_at {} at {place} {}",
+        Answered(r),
         WorkSpace(&work)
     )
 }
 
-fn line_of_failed_at(alloc: Global, v: Volume, image: &[u8], q: &[u8]) -> Line {
-    let mut work = lent(alloc, space(q))?;
-    let mut place: usize = 99;
-    let r = v.failed_at(image, text(q), matching(q), &mut work, &mut place);
-    format!(in alloc; "failed_at {} at {place} {}", Answered(r), WorkSpace(&work))
-}
-
 // ---- by an ICB
 
-fn line_of_read(alloc: Global, v: Volume, image: &[u8], q: &[u8]) -> Line {
+fn line_of_read(alloc: Global, v: Volume, image: &[u8], q: &[u8], line: &mut String) -> Put {
     let mut out = lent(alloc, room(q))?;
     let r = v.read(image, icb(q), &mut out);
-    format!(in alloc; "read {} {}", Answered(r), Written(&out, r.length as usize))
+    write!(
+        line,
+        "read {} {}",
+        Answered(r),
+        Written(&out, r.length as usize)
+    )
 }
 
-fn line_of_measure(alloc: Global, v: Volume, image: &[u8], q: &[u8]) -> Line {
-    format!(in alloc; "measure {}", Answered(v.measure(image, icb(q))))
+fn line_of_measure(v: Volume, image: &[u8], q: &[u8], line: &mut String) -> Put {
+    write!(line, "measure {}", Answered(v.measure(image, icb(q))))
 }
 
-fn line_of_part(alloc: Global, v: Volume, image: &[u8], q: &[u8]) -> Line {
+fn line_of_part(v: Volume, image: &[u8], q: &[u8], line: &mut String) -> Put {
     let mut answer: u64 = 99;
     let mut count: u64 = 99;
     let bytes = v.part(image, icb(q), &mut answer, &mut count);
-    format!(in alloc;
-        "part {answer} count {count} length {} sum {}",
-        bytes.len(),
+    let length = bytes.len();
+    write!(
+        line,
+        "part {answer} count {count} length {length} sum {}",
         sum(bytes)
     )
 }
 
-fn line_of_part_at(alloc: Global, v: Volume, image: &[u8], q: &[u8]) -> Line {
+fn line_of_part_at(v: Volume, image: &[u8], q: &[u8], line: &mut String) -> Put {
     let mut place: usize = 99;
     let r = v.part_at(image, icb(q), &mut place);
-    format!(in alloc; "part_at {} at {place}", Answered(r))
+    write!(line, "part_at {} at {place}", Answered(r))
 }
 
 // ---- calls that are lent output and work space
@@ -174,34 +195,48 @@ fn line_of_written(
     v: Volume,
     image: &[u8],
     q: &[u8],
-) -> Line {
+    line: &mut String,
+) -> Put {
     let mut out = lent(alloc, room(q))?;
     let mut work = lent(alloc, space(q))?;
     let r = made(call, v, image, q, &mut out, &mut work);
     let written = Written(&out, r.length as usize);
-    format!(in alloc; "{name} {} {written} {}", Answered(r), WorkSpace(&work))
+    write!(
+        line,
+        "{name} {} {written} {}",
+        Answered(r),
+        WorkSpace(&work)
+    )
 }
 
 // ---- any call
 
-// Makes a call, and gives its line.
-pub(crate) fn line_of(alloc: Global, call: Call, v: Volume, image: &[u8], q: &[u8]) -> Line {
+// Makes a call, and has its line in place of what was in `line`.
+pub(crate) fn line_of(
+    alloc: Global,
+    call: Call,
+    v: Volume,
+    image: &[u8],
+    q: &[u8],
+    line: &mut String,
+) -> Put {
+    line.clear();
     match call {
-        Call::Probe => line_of_probe(alloc, image),
-        Call::Open => line_of_open(alloc, image, volume(q)),
-        Call::Label => line_of_label(alloc, image, q),
-        Call::Lookup => line_of_lookup(alloc, v, image, q),
-        Call::Failed => line_of_failed(alloc, v, image, q),
-        Call::List => line_of_written(alloc, call, "list", v, image, q),
-        Call::Read => line_of_read(alloc, v, image, q),
-        Call::Part => line_of_part(alloc, v, image, q),
-        Call::Extents => line_of_extents(alloc, v, image, q),
-        Call::ReadPath => line_of_written(alloc, call, "read_path", v, image, q),
-        Call::ReadAll => line_of_read_all(alloc, v, image, q),
-        Call::Show => line_of_written(alloc, call, "show", v, image, q),
-        Call::Measure => line_of_measure(alloc, v, image, q),
-        Call::Runs => line_of_runs(alloc, v, image, q),
-        Call::FailedAt => line_of_failed_at(alloc, v, image, q),
-        Call::PartAt => line_of_part_at(alloc, v, image, q),
+        Call::Probe => line_of_probe(image, line),
+        Call::Open => line_of_open(image, volume(q), line),
+        Call::Label => line_of_label(alloc, image, q, line),
+        Call::Lookup => line_of_lookup(alloc, v, image, q, line),
+        Call::Failed => line_of_failed(alloc, v, image, q, line),
+        Call::List => line_of_written(alloc, call, "list", v, image, q, line),
+        Call::Read => line_of_read(alloc, v, image, q, line),
+        Call::Part => line_of_part(v, image, q, line),
+        Call::Extents => line_of_extents(alloc, v, image, q, line),
+        Call::ReadPath => line_of_written(alloc, call, "read_path", v, image, q, line),
+        Call::ReadAll => line_of_read_all(alloc, v, image, q, line),
+        Call::Show => line_of_written(alloc, call, "show", v, image, q, line),
+        Call::Measure => line_of_measure(v, image, q, line),
+        Call::Runs => line_of_runs(alloc, v, image, q, line),
+        Call::FailedAt => line_of_failed_at(alloc, v, image, q, line),
+        Call::PartAt => line_of_part_at(v, image, q, line),
     }
 }

@@ -1,9 +1,17 @@
 // The parts that several lines have.
+ghost use Rattle.std.specs.Prelude.{◌≡◌, ◌<◌, ℕ, List, [], ◌∷◌, ◌++◌, length, OnOk};
+ghost use Rattle.std.specs.String.{string_bytes};
+ghost use Rattle.programs.specs.Shown.{hex_pair, escaped_byte, escaped};
+
 use disc::replies::Reply;
 use programs::lent::{LENT, fill, front, sum};
+use programs::shown::{high_digit, low_digit, stays};
 use std::alloc::{AllocError, Global};
 use std::fmt;
 use std::fmt::{Display, Formatter, Write};
+
+// The most bytes of a line.
+pub(crate) const LINE: usize = 65536;
 
 // Memory to be lent, full of A5.
 pub(crate) fn lent(alloc: Global, n: usize) -> Result<Vec<u8>, AllocError> {
@@ -36,4 +44,36 @@ impl Display for Written<'_> {
 
 pub(crate) fn kept(is_kept: bool) -> &'static str {
     if is_kept { "kept" } else { "changed" }
+}
+
+// A byte that doesn't stand for itself.
+fn put_escape(line: &mut String, b: u8) -> Result<(), AllocError>
+    ensures { OnOk result (string_bytes line.new ≡ string_bytes line.old ++ (0x5c ∷ hex_pair b)) }
+{
+    line.push('\\')?;
+    line.push(char::from(high_digit(b)))?;
+    line.push(char::from(low_digit(b)))
+}
+
+fn put_byte(line: &mut String, b: u8) -> Result<(), AllocError>
+    ensures { OnOk result (string_bytes line.new ≡ string_bytes line.old ++ escaped_byte b) }
+{
+    if stays(b) {
+        return line.push(char::from(b));
+    }
+    put_escape(line, b)
+}
+
+// Puts a text behind a line, as `Escaped` shows it. What a line doesn't show may be left out, so that no more of a long
+// text is held. `Escaped` takes each byte through a formatter, several times as long.
+pub(crate) fn put_text(line: &mut String, text: &[u8]) -> Result<(), AllocError>
+    ensures { OnOk result ((rest : List ℕ) × (string_bytes line.new ++ rest ≡ string_bytes line.old ++ escaped text.now) × (length (string_bytes line.new) < 65536 → rest ≡ [])) }
+{
+    for &b in text {
+        if LINE <= line.len() {
+            return Ok(());
+        }
+        put_byte(line, b)?;
+    }
+    Ok(())
 }

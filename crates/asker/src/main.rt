@@ -15,22 +15,20 @@ ghost use Rattle.std.specs.Prelude.{◌<◌, ◌≤◌, length, IfOk, IfSome};
 
 use calls::{CALLS, Call, line_of};
 use disc::counts::UNLIMITED;
+use lines::{LINE, put_text};
 use programs::lent::{front, is_zero, part, two_mebibytes};
 use programs::read_full;
-use programs::shown::Escaped;
 use queries::{BY_HAND, HEAD, WATCHED, calls, is_meant, most, text, there, volume, volume_of};
 use records::bytes::{byte_at, le16, le32};
 use sparse::{expand, lay_runs};
-use std::alloc::{AllocError, Global};
+use std::alloc::AllocError;
 use std::fmt::Write;
 use std::fs::File;
+use std::mem::swap;
 use std::os::fd::AsRawFd;
 use std::rt::Files;
 use std::{env, fs, io};
 use vault::volume::Volume;
-
-// The most bytes of a line.
-const LINE: usize = 65536;
 
 // The part of a line that is shown. All of its characters are ASCII.
 fn shown(line: &str) -> &str {
@@ -44,6 +42,12 @@ fn cut_of(i: usize) -> usize {
     2047 + 1024.min(i / 3) * 2048 + i % 3
 }
 
+// Prints a line. Its bytes are written at once: `println!` would write each 1,024 of them.
+fn say(rt: &impl Print, line: &str) -> io::Result<()> {
+    rt.write_all(shown(line).as_bytes())?;
+    println!(rt)
+}
+
 // Prints the line of each cut that differs from the line before.
 fn watch(
     rt: &(impl Print + AllocGlobal),
@@ -51,14 +55,16 @@ fn watch(
     v: Volume,
     image: &[u8],
     q: &[u8],
+    line: &mut String,
 ) -> io::Result<()> {
     let mut before = String::new(rt.alloc());
     for i in 0..image.len() / 2048 * 3 {
         let cut = front(image, cut_of(i));
-        let line = line_of(rt.alloc(), call, v, cut, q)?;
+        line_of(rt.alloc(), call, v, cut, q, line)?;
         if shown(line.as_str()) != shown(before.as_str()) {
-            println!(rt; "at {} {}", cut.len(), shown(line.as_str()))?;
-            before = line;
+            print!(rt; "at {} ", cut.len())?;
+            say(rt, line.as_str())?;
+            swap(line, &mut before);
         }
     }
     Ok(())
@@ -70,13 +76,14 @@ fn ask(
     v: Volume,
     image: &[u8],
     q: &[u8],
+    line: &mut String,
 ) -> io::Result<()> {
     if there(q) == WATCHED {
-        return watch(rt, call, v, image, q);
+        return watch(rt, call, v, image, q, line);
     }
     let whole = front(image, there(q) as usize);
-    let line = line_of(rt.alloc(), call, v, whole, q)?;
-    println!(rt; "{}", shown(line.as_str()))
+    line_of(rt.alloc(), call, v, whole, q, line)?;
+    say(rt, line.as_str())
 }
 
 // ---- a query
@@ -94,7 +101,8 @@ fn put_held(line: &mut String, word: &str, text: &[u8]) -> Result<(), AllocError
     if is_zero(text) {
         return Ok(());
     }
-    write!(line, " {word} {}", Escaped(text))
+    write!(line, " {word} ")?;
+    put_text(line, text)
 }
 
 // What is asked. Zeros are left out, and `there` if it is the whole length.
@@ -118,23 +126,23 @@ fn put_lent(line: &mut String, q: &[u8]) -> Result<(), AllocError> {
     put_set(line, "answers", le32(q, 32))
 }
 
-fn line_of_query(alloc: Global, q: &[u8], length: usize) -> Result<String, AllocError> {
-    let mut line = format!(in alloc; "query")?;
-    put_numbers(&mut line, q, length)?;
-    put_lent(&mut line, q)?;
-    put_held(&mut line, "icb", part(q, 36, 52))?;
-    put_held(&mut line, "text", text(q))?;
-    Ok(line)
+fn put_query(line: &mut String, q: &[u8], length: usize) -> Result<(), AllocError> {
+    line.push_str("query")?;
+    put_numbers(line, q, length)?;
+    put_lent(line, q)?;
+    put_held(line, "icb", part(q, 36, 52))?;
+    put_held(line, "text", text(q))
 }
 
-// Makes each call of a query, in order.
+// Makes each call of a query, in order. All its lines are put into one string, so that none is allocated for each.
 fn query(rt: &(impl Print + AllocGlobal), image: &[u8], made: &[u8], q: &[u8]) -> io::Result<()> {
-    let asked = line_of_query(rt.alloc(), q, image.len())?;
-    println!(rt; "{}", shown(asked.as_str()))?;
+    let mut line = String::new(rt.alloc());
+    put_query(&mut line, q, image.len())?;
+    say(rt, line.as_str())?;
     let v = Volume(volume_of(image, q, made));
     for (bit, call) in CALLS.iter().enumerate() {
         if calls(q) >> bit & 1 == 1 {
-            ask(rt, *call, v, image, q)?;
+            ask(rt, *call, v, image, q, &mut line)?;
         }
     }
     Ok(())

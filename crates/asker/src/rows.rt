@@ -15,17 +15,17 @@ pub(crate) fn line_of_extents(
     v: Volume,
     image: &[u8],
     q: &[u8],
-) -> Result<String, AllocError> {
+    line: &mut String,
+) -> Result<(), AllocError> {
     let mut row = vec![in alloc; [FREE; 4]; slots(q)]?;
     let r = v.extent_words(image, icb(q), &mut row);
     let listed = r.length as usize;
-    let mut line = format!(in alloc; "extents {}", Answered(r))?;
+    write!(line, "extents {}", Answered(r))?;
     for slot in row.iter().take(listed) {
         write!(line, " ({} {} {} {})", slot[0], slot[1], slot[2], slot[3])?;
     }
     let is_kept = row.iter().skip(listed).all(|slot| *slot == [FREE; 4]);
-    write!(line, " {}", kept(is_kept))?;
-    Ok(line)
+    write!(line, " {}", kept(is_kept))
 }
 
 pub(crate) fn line_of_runs(
@@ -33,17 +33,17 @@ pub(crate) fn line_of_runs(
     v: Volume,
     image: &[u8],
     q: &[u8],
-) -> Result<String, AllocError> {
+    line: &mut String,
+) -> Result<(), AllocError> {
     let mut row = vec![in alloc; [FREE_LONG; 2]; slots(q)]?;
     let r = v.runs(image, icb(q), &mut row);
     let listed = r.length as usize;
-    let mut line = format!(in alloc; "runs {}", Answered(r))?;
+    write!(line, "runs {}", Answered(r))?;
     for run in row.iter().take(listed) {
         write!(line, " ({} {})", run[0], run[1])?;
     }
     let is_kept = row.iter().skip(listed).all(|run| *run == [FREE_LONG; 2]);
-    write!(line, " {}", kept(is_kept))?;
-    Ok(line)
+    write!(line, " {}", kept(is_kept))
 }
 
 pub(crate) fn line_of_read_all(
@@ -51,7 +51,8 @@ pub(crate) fn line_of_read_all(
     v: Volume,
     image: &[u8],
     q: &[u8],
-) -> Result<String, AllocError> {
+    line: &mut String,
+) -> Result<(), AllocError> {
     let mut out = lent(alloc, room(q))?;
     let mut work = lent(alloc, space(q))?;
     let mut lengths = vec![in alloc; FREE_LONG; slots(q)]?;
@@ -65,7 +66,8 @@ pub(crate) fn line_of_read_all(
         &mut told,
         &mut work,
     );
-    format!(in alloc;
+    write!(
+        line,
         "read_all {} {} lengths{} answers{} {}",
         Answered(r),
         Written(&out, r.length as usize),
