@@ -1,10 +1,11 @@
 // Runs the CRC, a line each: the bytes, or how many of a pattern, and their CRC, the high byte first.
 #![tactic(auto)]
 
+ghost use Rattle.std.specs.Prelude.{◌≡◌, length};
+
 use crcs::crc;
 use programs::lent::front;
 use programs::shown::Hex;
-use std::alloc::{AllocError, Global};
 use std::io;
 
 fn bytes(rt: &impl Print, s: &[u8]) -> io::Result<()> {
@@ -52,10 +53,14 @@ fn anchors(rt: &impl Print) -> io::Result<()> {
 }
 
 // Byte i is i + 1 + 59 (i div 256), modulo 256: each byte once, and then each again from another one on.
-fn pattern(alloc: Global) -> Result<Vec<u8>, AllocError> {
-    (0..4100u16)
-        .map(|i| ((i + 1 + i / 256 * 59) % 256) as u8)
-        .collect(alloc)
+fn pattern() -> [u8; 4100]
+    ensures { 4100 ≡ length result }
+{
+    let mut made = [0u8; 4100];
+    for i in 0..4100 {
+        made[i] = ((i + 1 + i / 256 * 59) % 256) as u8;
+    }
+    made
 }
 
 // The first bytes of the pattern. From 16 bytes on four are taken at a time, and up to three are left. The most that stands behind a tag in its sector is 2,032 bytes.
@@ -76,7 +81,7 @@ fn cases(rt: &impl Print, whole: &[u8]) -> io::Result<()> {
 }
 
 fn main(rt: HostRuntime) -> io::Result<()> {
-    let whole = pattern(rt.alloc())?;
+    let whole = pattern();
     // A line that can't be written doesn't change the exit status.
     let _ = cases(&rt, &whole);
     Ok(())

@@ -24,7 +24,6 @@ use programs::read_full;
 use records::allocations::{LongAd, long_at, no_long};
 use records::bytes::{le16, le32};
 use sparse::expand;
-use std::alloc::{AllocError, Global};
 use std::os::fd::AsRawFd;
 use std::{fs, io};
 use volumes::openings::{How, Opened, VolumeRecord, open_volume};
@@ -279,18 +278,20 @@ fn said_of(e: Ended, row: &[[u32; 4]], out: &[u8]) -> Said {
 
 // A read with this many slots and this much room.
 fn read_within(
-    alloc: Global,
     image: &[u8],
     q: Question,
     denied: usize,
     slots: usize,
     room: usize,
-) -> Result<Said, AllocError> {
-    let mut row = vec![in alloc; [FREE; 4]; SLOTS.min(slots)]?;
-    let mut out = vec![in alloc; 0; ROOM.min(room)]?;
-    fill(&mut out);
-    let e = read_whole(image, q, denied, &mut row, &mut out);
-    Ok(said_of(e, &row, &out))
+    out: &mut [u8],
+) -> Said {
+    let mut row = [[FREE; 4]; SLOTS];
+    let row = &mut row[..SLOTS.min(slots)];
+    let room = room.min(out.len());
+    let out = &mut out[..room];
+    fill(out);
+    let e = read_whole(image, q, denied, row, out);
+    said_of(e, row, out)
 }
 
 // ---- compared with the call
@@ -319,14 +320,15 @@ fn say_said(rt: &impl Print, slots: usize, room: usize, s: Said) -> io::Result<(
 // A read with this many slots and this much room, and a line for it if it says something other than the one before.
 // Returns what it says.
 fn turn(
-    rt: &(impl Print + AllocGlobal),
+    rt: &impl Print,
     image: &[u8],
     q: Question,
     slots: usize,
     room: usize,
     before: Said,
+    out: &mut [u8],
 ) -> io::Result<Said> {
-    let s = read_within(rt.alloc(), image, q, MOST, slots, room)?;
+    let s = read_within(image, q, MOST, slots, room, out);
     if s != before {
         say_said(rt, slots, room, s)?;
         println!(rt)?;
@@ -335,104 +337,102 @@ fn turn(
 }
 
 // The sum of a read whose i-th sector is denied.
-fn denied_reading(alloc: Global, image: &[u8], q: Question, i: usize) -> Result<u64, AllocError> {
-    let s = read_within(alloc, image, q, i, SLOTS, q.room)?;
-    Ok(
-        [
-            s.answer,
-            s.count,
-            s.length as u64,
-            s.sum,
-            u64::from(s.zero),
-            u64::from(s.kept),
-            u64::from(s.still),
-        ]
-        .into_iter()
-        .fold(s.list, mixed),
-    )
+fn denied_reading(image: &[u8], q: Question, i: usize, out: &mut [u8]) -> u64 {
+    let s = read_within(image, q, i, SLOTS, q.room, out);
+    [
+        s.answer,
+        s.count,
+        s.length as u64,
+        s.sum,
+        u64::from(s.zero),
+        u64::from(s.kept),
+        u64::from(s.still),
+    ]
+    .into_iter()
+    .fold(s.list, mixed)
 }
 
 // Denies each sector of the list in turn.
 fn say_denied_readings(
-    rt: &(impl Print + AllocGlobal),
+    rt: &impl Print,
     image: &[u8],
     q: Question,
     n: usize,
+    out: &mut [u8],
 ) -> io::Result<()> {
     let mut total = 0;
     for i in 0..n {
-        total = mixed(total, denied_reading(rt.alloc(), image, q, i)?);
+        total = mixed(total, denied_reading(image, q, i, out));
     }
     println!(rt; "denied {total}")
 }
 
 // The fewest slots with which the read says the same as with all.
-fn slots_needed(
-    alloc: Global,
-    image: &[u8],
-    q: Question,
-    enough: Said,
-) -> Result<usize, AllocError> {
+fn slots_needed(image: &[u8], q: Question, enough: Said, out: &mut [u8]) -> usize {
     for n in 0..SLOTS {
-        if read_within(alloc, image, q, MOST, n, q.room)? == enough {
-            return Ok(n);
+        if read_within(image, q, MOST, n, q.room, out) == enough {
+            return n;
         }
     }
-    Ok(SLOTS)
+    SLOTS
 }
 
 // The read with as many slots and bytes as it needs, with a slot fewer, and with none. Returns what the last one
 // says.
 fn say_fewer_slots(
-    rt: &(impl Print + AllocGlobal),
+    rt: &impl Print,
     image: &[u8],
     q: Question,
     s: Said,
     needed: usize,
+    out: &mut [u8],
 ) -> io::Result<Said> {
-    let exact = turn(rt, image, q, needed, s.length, s)?;
-    let short = turn(rt, image, q, needed.saturating_sub(1), q.room, exact)?;
-    turn(rt, image, q, 0, q.room, short)
+    let exact = turn(rt, image, q, needed, s.length, s, out)?;
+    let short = turn(rt, image, q, needed.saturating_sub(1), q.room, exact, out)?;
+    turn(rt, image, q, 0, q.room, short, out)
 }
 
 // The read with a byte less room, and with none.
 fn say_less_room(
-    rt: &(impl Print + AllocGlobal),
+    rt: &impl Print,
     image: &[u8],
     q: Question,
     s: Said,
     before: Said,
+    out: &mut [u8],
 ) -> io::Result<()> {
-    let short = turn(rt, image, q, SLOTS, s.length.saturating_sub(1), before)?;
-    turn(rt, image, q, SLOTS, 0, short)?;
+    let short = turn(rt, image, q, SLOTS, s.length.saturating_sub(1), before, out)?;
+    turn(rt, image, q, SLOTS, 0, short, out)?;
     Ok(())
 }
 
 // The other reads, after the one with slots and room enough.
 fn say_turns(
-    rt: &(impl Print + AllocGlobal),
+    rt: &impl Print,
     image: &[u8],
     q: Question,
     s: Said,
+    out: &mut [u8],
 ) -> io::Result<()> {
-    let needed = slots_needed(rt.alloc(), image, q, s)?;
+    let needed = slots_needed(image, q, s, out);
     println!(rt; "needs {needed}")?;
-    let before = say_fewer_slots(rt, image, q, s, needed)?;
-    say_less_room(rt, image, q, s, before)?;
-    say_denied_readings(rt, image, q, MOST.min(s.count as usize))
+    let before = say_fewer_slots(rt, image, q, s, needed, out)?;
+    say_less_room(rt, image, q, s, before, out)?;
+    say_denied_readings(rt, image, q, MOST.min(s.count as usize), out)
 }
 
 fn say_reading(
-    rt: &(impl Print + AllocGlobal),
+    rt: &impl Print,
     image: &[u8],
     q: Question,
     call: Reply,
     total: u64,
+    out: &mut [u8],
 ) -> io::Result<()> {
-    let s = read_within(rt.alloc(), image, q, MOST, SLOTS, q.room)?;
+    let s = read_within(image, q, MOST, SLOTS, q.room, out);
     say_said(rt, SLOTS, q.room, s)?;
     println!(rt; "{}", word_if(is_as_called(s, call, total), " same"))?;
-    say_turns(rt, image, q, s)
+    say_turns(rt, image, q, s, out)
 }
 
 // ---- the queries
@@ -476,7 +476,8 @@ fn say_call(
     out: &mut [u8],
 ) -> io::Result<(Reply, u64)> {
     let mount = q.volume.mount;
-    let call = read_file(image, mount, q.icb, out, Refusal::NoRoom);
+    let room = q.room.min(out.len());
+    let call = read_file(image, mount, q.icb, &mut out[..room], Refusal::NoRoom);
     let total = sum(front(out, call.length as usize));
     println!(rt;
         "call {} count {} length {} sum {total}",
@@ -485,16 +486,15 @@ fn say_call(
     Ok((call, total))
 }
 
-fn query(rt: &(impl Print + AllocGlobal), image: &[u8], b: &[u8]) -> io::Result<()> {
+fn query(rt: &impl Print, image: &[u8], b: &[u8], out: &mut [u8]) -> io::Result<()> {
     let q = Question {
         volume: volume_of(b),
         icb: long_at(b, 30),
         room: le32(b, 46) as usize,
     };
     say_query(rt, q)?;
-    let mut out = vec![in rt.alloc(); 0; ROOM.min(q.room)]?;
-    let (call, total) = say_call(rt, image, q, &mut out)?;
-    say_reading(rt, image, q, call, total)
+    let (call, total) = say_call(rt, image, q, out)?;
+    say_reading(rt, image, q, call, total, out)
 }
 
 // The bytes of a query.
@@ -503,24 +503,24 @@ const QUERY: usize = 50;
 // The queries, of 50 bytes each: the partition's start (32 bits), its number (16), whether bodies are checked and how
 // many maps there are (32 each), the starts of four maps (32 each), an ICB's 16 bytes, and the room of the output
 // (32).
-fn queries(rt: &(impl Print + AllocGlobal), image: &[u8], all: &[u8]) -> io::Result<()> {
+fn queries(rt: &impl Print, image: &[u8], all: &[u8], out: &mut [u8]) -> io::Result<()> {
     for q in all.chunks_exact(QUERY) {
-        query(rt, image, q)?;
+        query(rt, image, q, out)?;
     }
     Ok(())
 }
 
-fn ask(rt: &(impl Print + AllocGlobal), image: &[u8], all: &[u8]) -> io::Result<()> {
+fn ask(rt: &impl Print, image: &[u8], all: &[u8], out: &mut [u8]) -> io::Result<()> {
     if all.is_empty() {
         say_opening(rt, image)?;
     }
-    queries(rt, image, all)
+    queries(rt, image, all, out)
 }
 
 // ---- the file of images
 
 // Runs the image at i with its queries; returns where the next image is.
-fn run(rt: &(impl Print + AllocGlobal), all: &[u8], i: usize, image: &mut [u8]) -> io::Result<usize>
+fn run(rt: &impl Print, all: &[u8], i: usize, image: &mut [u8], out: &mut [u8]) -> io::Result<usize>
     requires { i < length all.now }
     ensures { IfOk result (λ next. i < next) }
 {
@@ -532,25 +532,17 @@ fn run(rt: &(impl Print + AllocGlobal), all: &[u8], i: usize, image: &mut [u8]) 
     let end = packed + 4 + le32(all, packed) as usize;
     let n = expand(part(all, packed + 4, end), image);
     let next = end + 2 + QUERY * le16(all, end) as usize;
-    ask(rt, front(image, n), part(all, end + 2, next))?;
+    ask(rt, front(image, n), part(all, end + 2, next), out)?;
     Ok(next)
 }
 
-fn run_all(rt: &(impl Print + AllocGlobal), all: &[u8], image: &mut [u8]) -> io::Result<()> {
+fn run_all(rt: &impl Print, all: &[u8], image: &mut [u8], out: &mut [u8]) -> io::Result<()> {
     let mut i = 0;
     // A `while`, since each image says itself where the next one starts: `for` is no plainer.
     while i < all.len() {
-        i = run(rt, all, i, image)?;
+        i = run(rt, all, i, image, out)?;
     }
     Ok(())
-}
-
-// A line that can't be written doesn't change the exit status. Memory that runs out does.
-fn unless_unwritten(r: io::Result<()>) -> io::Result<()> {
-    match r {
-        Err(e) if e.kind() != io::ErrorKind::OutOfMemory => Ok(()),
-        _ => r,
-    }
 }
 
 fn main(rt: HostRuntime) -> io::Result<()> {
@@ -559,5 +551,8 @@ fn main(rt: HostRuntime) -> io::Result<()> {
     let mut all = [0; IMAGES];
     let n = read_full(file.as_raw_fd(), &mut all);
     let mut image = two_mebibytes();
-    unless_unwritten(run_all(&rt, front(&all, n), &mut image))
+    let mut out = [0; ROOM];
+    // A line that can't be written doesn't change the exit status.
+    let _ = run_all(&rt, front(&all, n), &mut image, &mut out);
+    Ok(())
 }

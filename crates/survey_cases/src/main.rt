@@ -6,17 +6,16 @@
 // tools/survey_model.py computes what is expected, from the shelves and the rules.
 #![tactic(auto)]
 
-ghost use Rattle.std.specs.Prelude.{◌<◌, ◌≤◌, length, IfOk};
+ghost use Rattle.std.specs.Prelude.{◌≡◌, ◌<◌, ◌≤◌, length, IfOk};
 
 use disc::answers::DONE;
 use disc::counts::UNLIMITED;
 use figures::{PLACE, total};
-use programs::lent::{front, mebibyte, part};
+use programs::lent::{fill, front, mebibyte, part};
 use programs::read_full;
 use programs::shown::{Numbers, WorkSpace};
 use records::bytes::{le16, le32, le64};
 use sparse::expand;
-use std::alloc::{AllocError, Global};
 use std::os::fd::AsRawFd;
 use std::{fs, io};
 use surveys::survey;
@@ -29,7 +28,11 @@ const FREE: u64 = 0xa5a5_a5a5_a5a5_a5a5;
 const HEAD: usize = 28;
 
 // Room for a shelf of five volumes.
-const SHELF: usize = 3145728;
+fn three_mebibytes() -> [u8; 3145728]
+    ensures { 3145728 ≡ length result }
+{
+    [0; 3145728]
+}
 
 // The most lengths of a survey.
 const LENGTHS: usize = 64;
@@ -37,12 +40,23 @@ const LENGTHS: usize = 64;
 // The most that is lent: numbers of a row, and bytes of work space.
 const NUMBERS: usize = 2048;
 
-const WORK: usize = 65536;
+// The most numbers of a query: a row's, and in front of them how many places a total has.
+const ASKED: usize = 2049;
+
+fn work_space() -> [u8; 65536]
+    ensures { 65536 ≡ length result }
+{
+    [0; 65536]
+}
 
 // ---- rows
 
-fn numbers_of(bytes: &[u8], alloc: Global) -> Result<Vec<u64>, AllocError> {
-    bytes.chunks_exact(8).map(|n| le64(n, 0)).collect(alloc)
+// Puts the numbers of a query at the front of a row, as far as both go; how many that is.
+fn take_numbers(bytes: &[u8], row: &mut [u64]) -> usize {
+    for (place, n) in row.iter_mut().zip(bytes.chunks_exact(8)) {
+        *place = le64(n, 0);
+    }
+    row.len().min(bytes.len() / 8)
 }
 
 // How many numbers are as they came.
@@ -113,21 +127,22 @@ fn say_answer(rt: &impl Print, answer: u64, row: &[u64], whole: usize) -> io::Re
 }
 
 fn ask_survey(
-    rt: &(impl Print + AllocGlobal),
+    rt: &impl Print,
     shelf: &[u8],
     q: &[u8],
     lengths: &[u64],
     row: &mut [u64],
+    work: &mut [u8],
 ) -> io::Result<()> {
     let how = le32(q, 4);
     let most = le64(q, 16);
-    let mut work = vec![in rt.alloc(); 0xa5u8; WORK.min(le32(q, 12) as usize)]?;
     say_asked(rt, how, most, lengths, row.len(), work.len())?;
-    let answer = survey(shelf, lengths, chosen(how), most, row, &mut work);
+    fill(work);
+    let answer = survey(shelf, lengths, chosen(how), most, row, work);
     let places = if answer == DONE { lengths.len() + 1 } else { 0 };
     let whole = in_places(row.len(), places);
     say_answer(rt, answer, row, whole)?;
-    println!(rt; " {}", WorkSpace(&work))?;
+    println!(rt; " {}", WorkSpace(work))?;
     say_places(rt, &row[..whole])
 }
 
@@ -166,25 +181,30 @@ impl From<u32> for Question {
 
 // A query: what is asked, how images are opened, how many numbers the row has, the work space's size (32 bits each),
 // how many sectors an image is lent (64 bits), how many numbers follow (32 bits), and these (64 bits each).
-fn query(rt: &(impl Print + AllocGlobal), shelf: &[u8], q: &[u8]) -> io::Result<()> {
-    let mut row = vec![in rt.alloc(); FREE; NUMBERS.min(le32(q, 8) as usize)]?;
-    let numbers = numbers_of(part(q, HEAD, q.len()), rt.alloc())?;
+// Row and work space are lent as much of as it asks for.
+fn query(rt: &impl Print, shelf: &[u8], q: &[u8], work: &mut [u8]) -> io::Result<()> {
+    let mut places = [FREE; NUMBERS];
+    let row = &mut places[..NUMBERS.min(le32(q, 8) as usize)];
+    let mut held = [0u64; ASKED];
+    let n = take_numbers(part(q, HEAD, q.len()), &mut held);
+    let numbers = &held[..ASKED.min(n)];
     match Question::from(le32(q, 0)) {
         Question::Survey => {
             let lengths = &numbers[..LENGTHS.min(numbers.len())];
-            ask_survey(rt, shelf, q, lengths, &mut row)
+            let space = work.len().min(le32(q, 12) as usize);
+            ask_survey(rt, shelf, q, lengths, row, &mut work[..space])
         }
-        Question::Total => ask_total(rt, &numbers, &mut row),
+        Question::Total => ask_total(rt, numbers, row),
     }
 }
 
 // Each query in turn: a head, whose last four bytes say how many numbers follow, and these.
-fn queries(rt: &(impl Print + AllocGlobal), shelf: &[u8], all: &[u8]) -> io::Result<()> {
+fn queries(rt: &impl Print, shelf: &[u8], all: &[u8], work: &mut [u8]) -> io::Result<()> {
     let mut i = 0;
     // A `while`, since each query says itself where the next one starts: `for` is no plainer.
     while i < all.len() {
         let end = i + HEAD + 8 * le32(all, i + 24) as usize;
-        query(rt, shelf, part(all, i, end))?;
+        query(rt, shelf, part(all, i, end), work)?;
         i = end;
     }
     Ok(())
@@ -193,7 +213,13 @@ fn queries(rt: &(impl Print + AllocGlobal), shelf: &[u8], all: &[u8]) -> io::Res
 // ---- the file of shelves
 
 // Runs the shelf at i with its queries; returns where the next shelf is.
-fn run(rt: &(impl Print + AllocGlobal), all: &[u8], i: usize, shelf: &mut [u8]) -> io::Result<usize>
+fn run(
+    rt: &impl Print,
+    all: &[u8],
+    i: usize,
+    shelf: &mut [u8],
+    work: &mut [u8],
+) -> io::Result<usize>
     requires { i < length all.now }
     ensures { IfOk result (λ next. i < next) }
 {
@@ -205,25 +231,17 @@ fn run(rt: &(impl Print + AllocGlobal), all: &[u8], i: usize, shelf: &mut [u8]) 
     let end = packed + 4 + le32(all, packed) as usize;
     let n = expand(part(all, packed + 4, end), shelf);
     let next = end + 4 + le32(all, end) as usize;
-    queries(rt, front(shelf, n), part(all, end + 4, next))?;
+    queries(rt, front(shelf, n), part(all, end + 4, next), work)?;
     Ok(next)
 }
 
-fn run_all(rt: &(impl Print + AllocGlobal), all: &[u8], shelf: &mut [u8]) -> io::Result<()> {
+fn run_all(rt: &impl Print, all: &[u8], shelf: &mut [u8], work: &mut [u8]) -> io::Result<()> {
     let mut i = 0;
     // A `while`, since each shelf says itself where the next one starts: `for` is no plainer.
     while i < all.len() {
-        i = run(rt, all, i, shelf)?;
+        i = run(rt, all, i, shelf, work)?;
     }
     Ok(())
-}
-
-// A line that can't be written doesn't change the exit status. Memory that runs out does.
-fn unless_unwritten(r: io::Result<()>) -> io::Result<()> {
-    match r {
-        Err(e) if e.kind() != io::ErrorKind::OutOfMemory => Ok(()),
-        _ => r,
-    }
 }
 
 fn main(rt: HostRuntime) -> io::Result<()> {
@@ -231,6 +249,9 @@ fn main(rt: HostRuntime) -> io::Result<()> {
     // A mebibyte of the file is looked at. A read that fails ends it.
     let mut all = mebibyte();
     let n = read_full(file.as_raw_fd(), &mut all);
-    let mut shelf = vec![in rt.alloc(); 0u8; SHELF]?;
-    unless_unwritten(run_all(&rt, front(&all, n), &mut shelf))
+    let mut shelf = three_mebibytes();
+    let mut work = work_space();
+    // A line that can't be written doesn't change the exit status.
+    let _ = run_all(&rt, front(&all, n), &mut shelf, &mut work);
+    Ok(())
 }

@@ -1,0 +1,8 @@
+-- `survey_cases::three_mebibytes` meets its contract: the array has as many bytes as its type says. Assumes nothing.
+use mathlib.Core.Path.{sym}
+use Prim.Native.Nat.{ℕ}
+use lib.ListN.{length-replicate}
+use Rattle.survey_cases.proofs.three_mebibytes.Goals as goal
+
+pub returns : goal.returns
+returns c = sym (length-replicate {A = ℕ} 3145728 0)
