@@ -13,6 +13,7 @@ use descriptors::file_sets::FileSetDescriptor;
 use descriptors::logicals::LogicalVolumeDescriptor;
 use descriptors::partitions::PartitionDescriptor;
 use descriptors::primaries::PrimaryVolumeDescriptor;
+use disc::answers::DONE;
 use records::allocations::{ExtentAd, no_long};
 use tags::no_tag;
 
@@ -108,20 +109,26 @@ pub extern "C" fn records_parse_partition(bytes: &[u8]) -> PartitionAnswer
 pub extern "C" fn records_parse_logical_volume(bytes: &[u8]) -> LogicalAnswer
     ensures { record { number = result.answer; value = result.value } ≡ logical_answer (read_logical false bytes.now) }
 {
-    let (answer, value) = told(
-        LogicalVolumeDescriptor::parse(false, bytes),
-        LogicalVolumeDescriptor {
-            tag: no_tag(),
-            volume_descriptor_sequence_number: 0,
-            logical_volume_identifier: [0; 128],
-            logical_block_size: 0,
-            file_set_descriptor_location: no_long(),
-            map_table_length: 0,
-            number_of_partition_maps: 0,
-            partition_maps: [0; 24],
+    // Not by `told`, which is handed the zeros: there are many, and they are made only where they are told.
+    match LogicalVolumeDescriptor::parse(false, bytes) {
+        Ok(value) => LogicalAnswer {
+            answer: DONE,
+            value,
         },
-    );
-    LogicalAnswer { answer, value }
+        Err(why) => LogicalAnswer {
+            answer: why.number(),
+            value: LogicalVolumeDescriptor {
+                tag: no_tag(),
+                volume_descriptor_sequence_number: 0,
+                logical_volume_identifier: [0; 128],
+                logical_block_size: 0,
+                file_set_descriptor_location: no_long(),
+                map_table_length: 0,
+                number_of_partition_maps: 0,
+                partition_maps: [0; 24],
+            },
+        },
+    }
 }
 
 #[unsafe(no_mangle)]
