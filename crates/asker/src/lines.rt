@@ -1,23 +1,76 @@
-// The parts that several lines have.
-ghost use Rattle.std.specs.Prelude.{◌≡◌, ◌<◌, ℕ, List, [], ◌∷◌, ◌++◌, length, OnOk};
-ghost use Rattle.std.specs.String.{string_bytes};
+// A line, and the parts that several lines have.
+ghost use Rattle.std.specs.Prelude.{◌≡◌, [], ◌∷◌, ◌++◌, take};
 ghost use Rattle.programs.specs.Shown.{hex_pair, escaped_byte, escaped};
 
+use disc::moves::copy;
 use disc::replies::Reply;
-use programs::lent::{LENT, fill, front, sum};
+// 65,536 zeros: room for what is lent, too.
+pub(crate) use io::large_buffer;
+use programs::lent::{LENT, front, sum};
 use programs::shown::{high_digit, low_digit, stays};
-use std::alloc::{AllocError, Global};
 use std::fmt;
 use std::fmt::{Display, Formatter, Write};
 
 // The most bytes of a line.
-pub(crate) const LINE: usize = 65536;
+const LINE: usize = 65536;
 
-// Memory to be lent, full of A5.
-pub(crate) fn lent(alloc: Global, n: usize) -> Result<Vec<u8>, AllocError> {
-    let mut bytes = vec![in alloc; 0; n]?;
-    fill(&mut bytes);
-    Ok(bytes)
+// A line is put together in memory of its own, so that it can be compared with the one before it, and nothing is
+// allocated. What has no room is left out.
+#[derive(Drop)]
+pub(crate) struct Line {
+    bytes: [u8; 65536],
+    length: usize,
+}
+
+impl Line {
+    pub(crate) fn new() -> Line
+        ensures { take result.length result.bytes ≡ [] }
+    {
+        Line {
+            bytes: large_buffer(),
+            length: 0,
+        }
+    }
+
+    pub(crate) fn clear(&mut self)
+        ensures { take self.new.length self.new.bytes ≡ [] }
+    {
+        self.length = 0;
+    }
+
+    // What is in it.
+    pub(crate) fn text(&self) -> &[u8]
+        ensures { result.now ≡ take self.now.length self.now.bytes }
+    {
+        front(&self.bytes, self.length)
+    }
+
+    fn push(&mut self, b: u8)
+        ensures { take self.new.length self.new.bytes ≡ take 65536 (take self.old.length self.old.bytes ++ (b ∷ [])) }
+    {
+        if self.length < LINE {
+            self.bytes[self.length] = b;
+            self.length += 1;
+        }
+    }
+
+    pub(crate) fn put(&mut self, text: &[u8])
+        ensures { take self.new.length self.new.bytes ≡ take 65536 (take self.old.length self.old.bytes ++ text.now) }
+    {
+        let from = self.length.min(LINE);
+        let room = &mut self.bytes[..];
+        copy(text, &mut room[from..]);
+        self.length = from + text.len().min(LINE - from);
+    }
+}
+
+impl Write for Line {
+    ghost write_str_gives = { λ s bs t. take t.length t.bytes ≡ take 65536 (take s.length s.bytes ++ bs) };
+
+    fn write_str(&mut self, s: &str) -> fmt::Result {
+        self.put(s.as_bytes());
+        Ok(())
+    }
 }
 
 // What every call answers.
@@ -47,33 +100,32 @@ pub(crate) fn kept(is_kept: bool) -> &'static str {
 }
 
 // A byte that doesn't stand for itself.
-fn put_escape(line: &mut String, b: u8) -> Result<(), AllocError>
-    ensures { OnOk result (string_bytes line.new ≡ string_bytes line.old ++ (0x5c ∷ hex_pair b)) }
+fn put_escape(line: &mut Line, b: u8)
+    ensures { take line.new.length line.new.bytes ≡ take 65536 (take line.old.length line.old.bytes ++ (0x5c ∷ hex_pair b)) }
 {
-    line.push('\\')?;
-    line.push(char::from(high_digit(b)))?;
-    line.push(char::from(low_digit(b)))
+    line.push(b'\\');
+    line.push(high_digit(b));
+    line.push(low_digit(b));
 }
 
-fn put_byte(line: &mut String, b: u8) -> Result<(), AllocError>
-    ensures { OnOk result (string_bytes line.new ≡ string_bytes line.old ++ escaped_byte b) }
+fn put_byte(line: &mut Line, b: u8)
+    ensures { take line.new.length line.new.bytes ≡ take 65536 (take line.old.length line.old.bytes ++ escaped_byte b) }
 {
     if stays(b) {
-        return line.push(char::from(b));
+        line.push(b);
+        return;
     }
-    put_escape(line, b)
+    put_escape(line, b);
 }
 
-// Puts a text behind a line, as `Escaped` shows it. What a line doesn't show may be left out, so that no more of a long
-// text is held. `Escaped` takes each byte through a formatter, several times as long.
-pub(crate) fn put_text(line: &mut String, text: &[u8]) -> Result<(), AllocError>
-    ensures { OnOk result ((rest : List ℕ) × (string_bytes line.new ++ rest ≡ string_bytes line.old ++ escaped text.now) × (length (string_bytes line.new) < 65536 → rest ≡ [])) }
+// Puts a text behind a line, as `Escaped` shows it, which takes each byte through a formatter, several times as long.
+pub(crate) fn put_text(line: &mut Line, text: &[u8])
+    ensures { take line.new.length line.new.bytes ≡ take 65536 (take line.old.length line.old.bytes ++ escaped text.now) }
 {
     for &b in text {
-        if LINE <= line.len() {
-            return Ok(());
+        if LINE <= line.text().len() {
+            return;
         }
-        put_byte(line, b)?;
+        put_byte(line, b);
     }
-    Ok(())
 }

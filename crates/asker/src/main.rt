@@ -15,25 +15,21 @@ ghost use Rattle.std.specs.Prelude.{◌<◌, ◌≤◌, length, IfOk, IfSome};
 
 use calls::{CALLS, Call, line_of};
 use disc::counts::UNLIMITED;
-use lines::{LINE, put_text};
+use lines::{Line, large_buffer, put_text};
 use programs::lent::{front, is_zero, part, two_mebibytes};
 use programs::read_full;
-use queries::{BY_HAND, HEAD, WATCHED, calls, is_meant, most, text, there, volume, volume_of};
+use queries::{
+    BY_HAND, BYTES, HEAD, WATCHED, calls, is_meant, most, room, space, text, there, volume,
+    volume_of,
+};
 use records::bytes::{byte_at, le16, le32};
 use sparse::{expand, lay_runs};
-use std::alloc::AllocError;
 use std::fmt::Write;
 use std::fs::File;
-use std::mem::swap;
 use std::os::fd::AsRawFd;
 use std::rt::Files;
-use std::{env, fs, io};
+use std::{env, fmt, fs, io};
 use vault::volume::Volume;
-
-// The part of a line that is shown. All of its characters are ASCII.
-fn shown(line: &str) -> &str {
-    line.get(..LINE).unwrap_or(line)
-}
 
 // ---- a call, on an image or on every cut of it
 
@@ -43,53 +39,63 @@ fn cut_of(i: usize) -> usize {
 }
 
 // Prints a line. Its bytes are written at once: `println!` would write each 1,024 of them.
-fn say(rt: &impl Print, line: &str) -> io::Result<()> {
-    rt.write_all(shown(line).as_bytes())?;
+fn say(rt: &impl Print, line: &Line) -> io::Result<()> {
+    rt.write_all(line.text())?;
     println!(rt)
+}
+
+// A line is always put together, since what has no room is left out: no error comes by here.
+fn written(r: fmt::Result) -> io::Result<()> {
+    r.map_err(|_| io::Error::from(io::ErrorKind::Other))
 }
 
 // Prints the line of each cut that differs from the line before.
 fn watch(
-    rt: &(impl Print + AllocGlobal),
+    rt: &impl Print,
     call: Call,
     v: Volume,
     image: &[u8],
     q: &[u8],
-    line: &mut String,
+    out: &mut [u8],
+    work: &mut [u8],
+    line: &mut Line,
 ) -> io::Result<()> {
-    let mut before = String::new(rt.alloc());
+    let mut before = Line::new();
     for i in 0..image.len() / 2048 * 3 {
         let cut = front(image, cut_of(i));
-        line_of(rt.alloc(), call, v, cut, q, line)?;
-        if shown(line.as_str()) != shown(before.as_str()) {
+        written(line_of(call, v, cut, q, out, work, line))?;
+        if line.text() != before.text() {
             print!(rt; "at {} ", cut.len())?;
-            say(rt, line.as_str())?;
-            swap(line, &mut before);
+            say(rt, line)?;
+            before.clear();
+            before.put(line.text());
         }
     }
     Ok(())
 }
 
 fn ask(
-    rt: &(impl Print + AllocGlobal),
+    rt: &impl Print,
     call: Call,
     v: Volume,
     image: &[u8],
     q: &[u8],
-    line: &mut String,
+    out: &mut [u8],
+    work: &mut [u8],
+    line: &mut Line,
 ) -> io::Result<()> {
     if there(q) == WATCHED {
-        return watch(rt, call, v, image, q, line);
+        return watch(rt, call, v, image, q, out, work, line);
     }
     let whole = front(image, there(q) as usize);
-    line_of(rt.alloc(), call, v, whole, q, line)?;
-    say(rt, line.as_str())
+    written(line_of(call, v, whole, q, out, work, line))?;
+    say(rt, line)
 }
 
 // ---- a query
 
 // A word and a number, unless the number is 0.
-fn put_set(line: &mut String, word: &str, n: u32) -> Result<(), AllocError> {
+fn put_set(line: &mut Line, word: &str, n: u32) -> fmt::Result {
     if n == 0 {
         return Ok(());
     }
@@ -97,16 +103,17 @@ fn put_set(line: &mut String, word: &str, n: u32) -> Result<(), AllocError> {
 }
 
 // A word and a text, unless all its bytes are 0.
-fn put_held(line: &mut String, word: &str, text: &[u8]) -> Result<(), AllocError> {
+fn put_held(line: &mut Line, word: &str, text: &[u8]) -> fmt::Result {
     if is_zero(text) {
         return Ok(());
     }
     write!(line, " {word} ")?;
-    put_text(line, text)
+    put_text(line, text);
+    Ok(())
 }
 
 // What is asked. Zeros are left out, and `there` if it is the whole length.
-fn put_numbers(line: &mut String, q: &[u8], length: usize) -> Result<(), AllocError> {
+fn put_numbers(line: &mut Line, q: &[u8], length: usize) -> fmt::Result {
     put_set(line, "volume", volume(q))?;
     if there(q) as usize != length {
         write!(line, " there {}", there(q))?;
@@ -116,7 +123,7 @@ fn put_numbers(line: &mut String, q: &[u8], length: usize) -> Result<(), AllocEr
 }
 
 // What is lent. Zeros are left out, and a budget of UNLIMITED.
-fn put_lent(line: &mut String, q: &[u8]) -> Result<(), AllocError> {
+fn put_lent(line: &mut Line, q: &[u8]) -> fmt::Result {
     if most(q) != UNLIMITED {
         write!(line, " most {}", most(q))?;
     }
@@ -126,23 +133,41 @@ fn put_lent(line: &mut String, q: &[u8]) -> Result<(), AllocError> {
     put_set(line, "answers", le32(q, 32))
 }
 
-fn put_query(line: &mut String, q: &[u8], length: usize) -> Result<(), AllocError> {
-    line.push_str("query")?;
+fn put_query(line: &mut Line, q: &[u8], length: usize) -> fmt::Result {
+    line.clear();
+    line.put(b"query");
     put_numbers(line, q, length)?;
     put_lent(line, q)?;
     put_held(line, "icb", part(q, 36, 52))?;
     put_held(line, "text", text(q))
 }
 
-// Makes each call of a query, in order. All its lines are put into one string, so that none is allocated for each.
-fn query(rt: &(impl Print + AllocGlobal), image: &[u8], made: &[u8], q: &[u8]) -> io::Result<()> {
-    let mut line = String::new(rt.alloc());
-    put_query(&mut line, q, image.len())?;
-    say(rt, line.as_str())?;
+// What is lent to the calls, and the line that was put together last.
+#[derive(Drop)]
+struct Memory {
+    out: [u8; BYTES],
+    work: [u8; BYTES],
+    line: Line,
+}
+
+// Makes each call of a query, in order, with the memory that it lends.
+fn query(
+    rt: &impl Print,
+    image: &[u8],
+    made: &[u8],
+    q: &[u8],
+    memory: &mut Memory,
+) -> io::Result<()> {
+    let line = &mut memory.line;
+    written(put_query(line, q, image.len()))?;
+    say(rt, line)?;
     let v = Volume(volume_of(image, q, made));
+    let (n, m) = (BYTES.min(room(q)), BYTES.min(space(q)));
+    let out = &mut memory.out[..];
+    let work = &mut memory.work[..];
     for (bit, call) in CALLS.iter().enumerate() {
         if calls(q) >> bit & 1 == 1 {
-            ask(rt, *call, v, image, q, &mut line)?;
+            ask(rt, *call, v, image, q, &mut out[..n], &mut work[..m], line)?;
         }
     }
     Ok(())
@@ -155,11 +180,12 @@ fn refuse(rt: &impl Print, at: usize, why: &str) -> io::Result<()> {
 // Runs the query at i, in a record that ends where `all` ends. Returns where the next one starts, or nothing if it is
 // refused.
 fn next_query(
-    rt: &(impl Print + AllocGlobal),
+    rt: &impl Print,
     image: &[u8],
     made: &[u8],
     all: &[u8],
     i: usize,
+    memory: &mut Memory,
 ) -> io::Result<Option<usize>>
     requires { i < length all.now }
     ensures { IfOk result (λ next. IfSome next (λ n. i < n)) }
@@ -174,22 +200,23 @@ fn next_query(
         refuse(rt, i, "a number means nothing")?;
         return Ok(None);
     }
-    query(rt, image, made, q)?;
+    query(rt, image, made, q, memory)?;
     Ok(Some(end))
 }
 
 // Runs the queries in order; false if one is refused.
 fn ask_queries(
-    rt: &(impl Print + AllocGlobal),
+    rt: &impl Print,
     image: &[u8],
     made: &[u8],
     all: &[u8],
     from: usize,
+    memory: &mut Memory,
 ) -> io::Result<bool> {
     let mut i = from;
     // A `while`, since each query says itself where the next one starts: `for` is no plainer.
     while i < all.len() {
-        match next_query(rt, image, made, all, i)? {
+        match next_query(rt, image, made, all, i, memory)? {
             Some(next) => i = next,
             None => return Ok(false),
         }
@@ -298,11 +325,12 @@ fn image_of(packed: &[u8], good: &[u8], how: Option<Making>, image: &mut [u8]) -
 
 // Runs the queries of the image at i. Returns where the next image's record starts, or nothing if it is refused.
 fn run(
-    rt: &(impl Print + AllocGlobal),
+    rt: &impl Print,
     all: &[u8],
     i: usize,
     base: usize,
     image: &mut [u8],
+    memory: &mut Memory,
 ) -> io::Result<Option<usize>>
     requires { (i < length all.now) × (base < length all.now) }
     ensures { IfOk result (λ next. IfSome next (λ n. i < n)) }
@@ -323,7 +351,14 @@ fn run(
     let good = packed_in(all, record_at(all, base));
     let n = image_of(packed_in(all, r), good, making_of(all, r), image);
     let made = part(all, r.made, r.made_end);
-    let is_done = ask_queries(rt, front(image, n), made, front(all, r.end), r.queries)?;
+    let is_done = ask_queries(
+        rt,
+        front(image, n),
+        made,
+        front(all, r.end),
+        r.queries,
+        memory,
+    )?;
     Ok(is_done.then_some(r.end))
 }
 
@@ -339,13 +374,13 @@ fn base_at(all: &[u8], i: usize, base: usize) -> usize
     }
 }
 
-fn run_all(rt: &(impl Print + AllocGlobal), all: &[u8], image: &mut [u8]) -> io::Result<()> {
+fn run_all(rt: &impl Print, all: &[u8], image: &mut [u8], memory: &mut Memory) -> io::Result<()> {
     let mut base = 0;
     let mut i = 0;
     // A `while`, since each image says itself where the next one starts: `for` is no plainer.
     while i < all.len() {
         base = base_at(all, i, base);
-        match run(rt, all, i, base, image)? {
+        match run(rt, all, i, base, image, memory)? {
             Some(next) => i = next,
             None => return Ok(()),
         }
@@ -356,9 +391,10 @@ fn run_all(rt: &(impl Print + AllocGlobal), all: &[u8], image: &mut [u8]) -> io:
 // ---- the files
 
 fn ask_file(
-    rt: &(impl Files<File = File> + Print + AllocGlobal),
+    rt: &(impl Files<File = File> + Print),
     name: &str,
     image: &mut [u8],
+    memory: &mut Memory,
 ) -> io::Result<()> {
     println!(rt; "file {name}")?;
     let Ok(file) = fs::open(rt, name) else {
@@ -370,22 +406,20 @@ fn ask_file(
     if n == all.len() {
         return refuse(rt, n, "there is no room for more");
     }
-    run_all(rt, front(&all, n), image)
-}
-
-// A line that can't be written doesn't change the exit status. Memory that runs out does.
-fn unless_unwritten(r: io::Result<()>) -> io::Result<()> {
-    match r {
-        Err(e) if e.kind() != io::ErrorKind::OutOfMemory => Ok(()),
-        _ => r,
-    }
+    run_all(rt, front(&all, n), image, memory)
 }
 
 // Runs the files that the arguments name, in order.
 fn main(rt: HostRuntime) -> io::Result<()> {
     let mut image = two_mebibytes();
+    let mut memory = Memory {
+        out: large_buffer(),
+        work: large_buffer(),
+        line: Line::new(),
+    };
     for name in env::args(&rt)?.skip(1) {
-        unless_unwritten(ask_file(&rt, name.as_str(), &mut image))?;
+        // A line that can't be written doesn't change the exit status.
+        let _ = ask_file(&rt, name.as_str(), &mut image, &mut memory);
     }
     Ok(())
 }

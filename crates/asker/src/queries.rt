@@ -17,9 +17,9 @@ pub(crate) const HEAD: usize = 64;
 pub(crate) const BY_HAND: usize = 62;
 
 // The most that is lent: bytes of output and of work space, and places of a row.
-const BYTES: u32 = 65536;
+pub(crate) const BYTES: usize = 65536;
 
-const PLACES: u32 = 1024;
+pub(crate) const PLACES: usize = 1024;
 
 // A number above every set of calls, a bit for each call; how many ways of opening there are.
 const BITS: u32 = 65536;
@@ -94,10 +94,7 @@ fn is_known(calls: u32, volume: u32, by_hand: usize) -> bool {
 
 // That much can be lent.
 fn is_lent(q: &[u8]) -> bool {
-    (le32(q, 20) <= BYTES)
-        & (le32(q, 24) <= BYTES)
-        & (le32(q, 28) <= PLACES)
-        & (le32(q, 32) <= PLACES)
+    (room(q) <= BYTES) & (space(q) <= BYTES) & (slots(q) <= PLACES) & (answers(q) <= PLACES)
 }
 
 // Whether a query means something, on an image of `length` bytes with `by_hand` volumes made by hand.

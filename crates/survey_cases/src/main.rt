@@ -43,6 +43,7 @@ const NUMBERS: usize = 2048;
 // The most numbers of a query: a row's, and in front of them how many places a total has.
 const ASKED: usize = 2049;
 
+// Room for the work space of a query.
 fn work_space() -> [u8; 65536]
     ensures { 65536 ≡ length result }
 {
@@ -181,7 +182,7 @@ impl From<u32> for Question {
 
 // A query: what is asked, how images are opened, how many numbers the row has, the work space's size (32 bits each),
 // how many sectors an image is lent (64 bits), how many numbers follow (32 bits), and these (64 bits each).
-// Row and work space are lent as much of as it asks for.
+// Of the row and the work space as much is lent as it asks for.
 fn query(rt: &impl Print, shelf: &[u8], q: &[u8], work: &mut [u8]) -> io::Result<()> {
     let mut places = [FREE; NUMBERS];
     let row = &mut places[..NUMBERS.min(le32(q, 8) as usize)];

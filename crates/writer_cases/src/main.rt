@@ -37,12 +37,11 @@ fn staged(k: usize) -> u8 {
     ((k % 256 * 7 + k / 2048) % 256) as u8
 }
 
-fn staging_area() -> [u8; 1048576] {
-    let mut made = mebibyte();
-    for k in 0..made.len() {
-        made[k] = staged(k);
+// In place: an array that is filled and then handed over is copied.
+fn stage(staging: &mut [u8]) {
+    for (k, byte) in staging.iter_mut().enumerate() {
+        *byte = staged(k);
     }
-    made
 }
 
 // ---- reading back
@@ -239,7 +238,8 @@ fn read_file(rt: &impl Files<File = File>, name: &str, bytes: &mut [u8]) -> io::
 
 // A line that can't be written doesn't change the exit status.
 fn main(rt: HostRuntime) -> io::Result<()> {
-    let staging = staging_area();
+    let mut staging = mebibyte();
+    stage(&mut staging);
     // A mebibyte of the cases is looked at, and of the stored disc.
     let mut all = mebibyte();
     let n = read_file(&rt, "cases", &mut all)?;
