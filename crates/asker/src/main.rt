@@ -31,6 +31,15 @@ use std::rt::Files;
 use std::{env, fmt, fs, io};
 use vault::volume::Volume;
 
+// What is lent to the calls, the line that was put together last, and the last one of a watched call that was printed.
+#[derive(Drop)]
+struct Memory {
+    out: [u8; BYTES],
+    work: [u8; BYTES],
+    line: Line,
+    before: Line,
+}
+
 // ---- a call, on an image or on every cut of it
 
 // Each sector's end, a byte before it and a byte after it. No image has more than 1,024 sectors.
@@ -49,6 +58,21 @@ fn written(r: fmt::Result) -> io::Result<()> {
     r.map_err(|_| io::Error::from(io::ErrorKind::Other))
 }
 
+// Makes a call with the memory that its query lends.
+fn make(call: Call, v: Volume, image: &[u8], q: &[u8], memory: &mut Memory) -> io::Result<()> {
+    let out = &mut memory.out[..];
+    let work = &mut memory.work[..];
+    written(line_of(
+        call,
+        v,
+        image,
+        q,
+        &mut out[..BYTES.min(room(q))],
+        &mut work[..BYTES.min(space(q))],
+        &mut memory.line,
+    ))
+}
+
 // Prints the line of each cut that differs from the line before.
 fn watch(
     rt: &impl Print,
@@ -56,19 +80,17 @@ fn watch(
     v: Volume,
     image: &[u8],
     q: &[u8],
-    out: &mut [u8],
-    work: &mut [u8],
-    line: &mut Line,
+    memory: &mut Memory,
 ) -> io::Result<()> {
-    let mut before = Line::new();
+    memory.before.clear();
     for i in 0..image.len() / 2048 * 3 {
         let cut = front(image, cut_of(i));
-        written(line_of(call, v, cut, q, out, work, line))?;
-        if line.text() != before.text() {
+        make(call, v, cut, q, memory)?;
+        if memory.line.text() != memory.before.text() {
             print!(rt; "at {} ", cut.len())?;
-            say(rt, line)?;
-            before.clear();
-            before.put(line.text());
+            say(rt, &memory.line)?;
+            memory.before.clear();
+            memory.before.put(memory.line.text());
         }
     }
     Ok(())
@@ -80,16 +102,13 @@ fn ask(
     v: Volume,
     image: &[u8],
     q: &[u8],
-    out: &mut [u8],
-    work: &mut [u8],
-    line: &mut Line,
+    memory: &mut Memory,
 ) -> io::Result<()> {
     if there(q) == WATCHED {
-        return watch(rt, call, v, image, q, out, work, line);
+        return watch(rt, call, v, image, q, memory);
     }
-    let whole = front(image, there(q) as usize);
-    written(line_of(call, v, whole, q, out, work, line))?;
-    say(rt, line)
+    make(call, v, front(image, there(q) as usize), q, memory)?;
+    say(rt, &memory.line)
 }
 
 // ---- a query
@@ -142,15 +161,7 @@ fn put_query(line: &mut Line, q: &[u8], length: usize) -> fmt::Result {
     put_held(line, "text", text(q))
 }
 
-// What is lent to the calls, and the line that was put together last.
-#[derive(Drop)]
-struct Memory {
-    out: [u8; BYTES],
-    work: [u8; BYTES],
-    line: Line,
-}
-
-// Makes each call of a query, in order, with the memory that it lends.
+// Makes each call of a query, in order.
 fn query(
     rt: &impl Print,
     image: &[u8],
@@ -158,16 +169,12 @@ fn query(
     q: &[u8],
     memory: &mut Memory,
 ) -> io::Result<()> {
-    let line = &mut memory.line;
-    written(put_query(line, q, image.len()))?;
-    say(rt, line)?;
+    written(put_query(&mut memory.line, q, image.len()))?;
+    say(rt, &memory.line)?;
     let v = Volume(volume_of(image, q, made));
-    let (n, m) = (BYTES.min(room(q)), BYTES.min(space(q)));
-    let out = &mut memory.out[..];
-    let work = &mut memory.work[..];
     for (bit, call) in CALLS.iter().enumerate() {
         if calls(q) >> bit & 1 == 1 {
-            ask(rt, *call, v, image, q, &mut out[..n], &mut work[..m], line)?;
+            ask(rt, *call, v, image, q, memory)?;
         }
     }
     Ok(())
@@ -416,6 +423,7 @@ fn main(rt: HostRuntime) -> io::Result<()> {
         out: large_buffer(),
         work: large_buffer(),
         line: Line::new(),
+        before: Line::new(),
     };
     for name in env::args(&rt)?.skip(1) {
         // A line that can't be written doesn't change the exit status.
