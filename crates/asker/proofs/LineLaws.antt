@@ -4,22 +4,23 @@ use Rattle.std.proofs.lemmas.List.{take-append-le, take_all, take_min, length-ta
 use Rattle.std.proofs.Math.Seq.{take-append-add, take_at, take-suc-set}
 use Rattle.disc.specs.Moves.{over}
 
--- what is cut before something is put behind it, and after, is cut after it
+-- to cut a text, put another behind it and cut again is to put it there and cut once
 pub cut-again : (n : ℕ) (xs ys : List ℕ) → take n (take n xs ++ ys) ≡ take n (xs ++ ys)
 cut-again zero xs ys = refl
 cut-again (suc n) [] ys = refl
 cut-again (suc n) (x ∷ xs) ys = ap (λ (s : List ℕ). x ∷ s) (cut-again n xs ys)
 
--- what was cut is cut no more
+-- what was cut once is not changed by another cut
 pub stays-cut : (n : ℕ) (xs : List ℕ) {s : List ℕ} → s ≡ take n xs → s ≡ take n s
 stays-cut n xs {s} e = e ∙ sym (ap (take n) e ∙ ap (take n) (sym (append-nil (take n xs))) ∙ cut-again n xs [] ∙ ap (take n) (append-nil xs))
 
--- two texts put one behind the other are one
+-- to put two texts, one after the other, is to put both as one
 pub puts : (n : ℕ) (t x y : List ℕ) {u v : List ℕ} → u ≡ take n (t ++ x) → v ≡ take n (u ++ y) → v ≡ take n (t ++ (x ++ y))
 puts n t x y first second =
     second ∙ ap (λ (s : List ℕ). take n (s ++ y)) first ∙ cut-again n (t ++ x) y ∙ ap (take n) (append_assoc t x y)
 
 module _ (bytes : List ℕ) (n : ℕ) (long : length bytes ≡ 65536) where
+  -- a line never holds more than its room
   pub held : take n bytes ≡ take 65536 (take n bytes)
   held = let size = length-take n bytes in sym (take_all 65536 (take n bytes) (omega arith))
 

@@ -4,7 +4,7 @@ ghost use Rattle.programs.specs.Shown.{hex_pair, escaped_byte, escaped};
 
 use disc::moves::copy;
 use disc::replies::Reply;
-// 65,536 zeros: room for what is lent, too.
+// 65,536 zeros: the room of a line, and of what is lent.
 pub(crate) use io::large_buffer;
 use programs::lent::{LENT, front, sum};
 use programs::shown::{high_digit, low_digit, stays};
@@ -118,7 +118,8 @@ fn put_byte(line: &mut Line, b: u8)
     put_escape(line, b);
 }
 
-// Puts a text behind a line, as `Escaped` shows it, which takes each byte through a formatter, several times as long.
+// Puts a text behind a line, as `Escaped` shows it. That takes each byte through a formatter, which takes several times
+// as long. A line that is full takes no more.
 pub(crate) fn put_text(line: &mut Line, text: &[u8])
     ensures { take line.new.length line.new.bytes ≡ take 65536 (take line.old.length line.old.bytes ++ escaped text.now) }
 {
